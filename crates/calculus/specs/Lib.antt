@@ -1,0 +1,3 @@
+pub mod Dynamic
+pub mod Steps
+pub mod Derived

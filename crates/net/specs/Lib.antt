@@ -1,0 +1,4 @@
+pub mod Net
+pub mod Tables
+pub mod Check
+pub mod Marking

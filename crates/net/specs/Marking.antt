@@ -1,0 +1,23 @@
+-- 01, "Refusal numbers", 35: "marking too short, or (firing, enabled list) a byte above 1". What lies past the net's part is not looked at.
+use Prim.Native.Nat.{ℕ}
+use mathlib.Core.List.{List, [], _∷_, _++_}
+use lib.ListN.{length, take, replicate}
+use lib.Dec.{leb}
+use Rattle.field.specs.Refusals.{no-marking}
+use Rattle.field.specs.Answer.{Answer, check, _>>=_, _>>_}
+use Rattle.net.specs.Net.{Net}
+use Rattle.net.specs.Check.{all}
+
+-- "35 (short only)", as replay asks it.
+unfoldable pub check-room : ℕ → List ℕ → Answer (Unit {0})
+check-room places m = check (leb places (length m)) no-marking 0
+
+unfoldable pub check-marking : ℕ → List ℕ → Answer (Unit {0})
+unfolding check-room all
+check-marking places m = do
+  check-room places m
+  check (all (λ x. leb x 1) (take places m)) no-marking 0
+
+-- "the entry marking": one token on every entry place
+unfoldable pub entry-marking : Net → List ℕ
+entry-marking N = replicate (N .entries) 1 ++ (replicate (N .internals) 0 ++ replicate (N .exits) 0)

@@ -1,0 +1,5 @@
+pub mod Expr
+pub mod Reading
+pub mod Exclusive
+pub mod Bytes
+pub mod Item

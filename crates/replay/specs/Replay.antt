@@ -1,0 +1,73 @@
+-- The replay call, whole: "Replay takes plan, record and marking buffer: 1 to 13, then 35 (short only), then 20, before anything is written
+-- and with 0 steps told. Then the buffer gets the entry marking and each step in turn; form is judged as a step is reached."
+use Prim.Native.Nat.{ℕ, suc, _+_}
+use mathlib.Core.List.{List, [], _∷_, _++_}
+use mathlib.Core.Bool.{Bool, cond}
+use lib.ListN.{drop}
+use lib.Dec.{leb}
+use Rattle.field.specs.Answer.{Answer, good, refused, _>>=_, _>>_}
+use Rattle.net.specs.Net.{Net, place-count}
+use Rattle.net.specs.Check.{all}
+use Rattle.net.specs.Marking.{check-room, entry-marking}
+use Rattle.boxes.specs.Arcs.{net-of}
+use Rattle.boxes.specs.Compile.{accept}
+use Rattle.step.specs.Form.{Recorded, ends, step, no-step, read-record}
+use Rattle.step.specs.Firing.{fire-items}
+
+-- "An accepted record is finished if all exit places are marked, else unfinished; its number of steps is told too."
+-- A refusal tells its number, what it carries, and the number of accepted steps.
+pub data Verdict : Type 0 where
+  finished unfinished : ℕ → Verdict
+  refusal : ℕ → ℕ → ℕ → Verdict
+
+-- The verdict and the marking of the net's places.
+pub record Run : Type 0 where
+  pub verdict : Verdict
+  pub marking : List ℕ
+
+unfoldable pub exits-marked : Net → List ℕ → Bool
+unfolding all
+exits-marked N m = all (λ x. leb 1 x) (drop (N .entries + N .internals) m)
+
+-- "A refusal leaves the marking after the accepted steps and tells their number."
+abbrev pub refuse : ℕ → ℕ → ℕ → List ℕ → Run
+refuse n c steps m = record { verdict = refusal n c steps; marking = m }
+
+abbrev pub go-on : Answer (List ℕ) → ℕ → List ℕ → (List ℕ → Run) → Run
+go-on (good m′) steps m rest = rest m′
+go-on (refused n c) steps m rest = refuse n c steps m
+
+-- "each step in turn", from a marking and a number of accepted steps on
+unfoldable pub run : Net → ℕ → List ℕ → Recorded → Run
+unfolding fire-items exits-marked
+run N steps m ends = record { verdict = cond (exits-marked N m) (finished steps) (unfinished steps); marking = m }
+run N steps m (step is rest) = go-on (fire-items (N .transitions) m is) steps m (λ m′. run N (suc steps) m′ rest)
+run N steps m (no-step n c) = refuse n c steps m
+
+-- What stands before the first step.
+pub record Started : Type 0 where
+  pub net : Net
+  pub recorded : Recorded
+
+unfoldable pub start : List ℕ → List ℕ → List ℕ → Answer Started
+unfolding accept check-room net-of read-record
+start plan run-record buffer = do
+  E ← accept plan
+  check-room (place-count (net-of E)) buffer
+  R ← read-record run-record
+  good (record { net = net-of E; recorded = R })
+
+pub record Replayed : Type 0 where
+  pub verdict : Verdict
+  pub buffer : List ℕ
+
+-- "What lies past the net's part, in a marking too, is neither looked at nor written."
+abbrev pub replayed : List ℕ → Answer Started → Replayed
+replayed buffer (good S) =
+    let r = run (S .net) 0 (entry-marking (S .net)) (S .recorded) in
+    record { verdict = r .verdict; buffer = r .marking ++ drop (place-count (S .net)) buffer }
+replayed buffer (refused n c) = record { verdict = refusal n c 0; buffer = buffer }
+
+unfoldable pub replay : List ℕ → List ℕ → List ℕ → Replayed
+unfolding start run entry-marking
+replay plan run-record buffer = replayed buffer (start plan run-record buffer)

@@ -1,0 +1,4 @@
+pub mod Form
+pub mod Firing
+pub mod Fire
+pub mod Enabled
