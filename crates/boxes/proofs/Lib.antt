@@ -1,1 +1,3 @@
 pub mod KnownNets
+pub mod Products
+pub mod Lengths

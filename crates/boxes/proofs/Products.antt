@@ -1,0 +1,47 @@
+-- 01, "A×B runs over A, and for each over B": how long a product is, and what stands at each position of it.
+-- Over A first means that the k-th pair has the (k / |B|)-th of A and the (k % |B|)-th of B. One law serves products of two, three and four.
+use Prim.Native.Nat.{ℕ, zero, suc, _+_, _*_, _/_, _%_, _<_}
+use native.Mathlib.Omega.{arith}
+use native.Mathlib.Nat.{mod-lt, div-add-mod', div-lt-iff-lt-mul, suc-mul, zero-mul, mul-zero}
+use mathlib.Core.Path.{_≡_, refl, sym, _∙_, ap}
+use mathlib.Core.List.{List, [], _∷_, _++_, map}
+use lib.ListN.{length, getD, length-append, length-map, List·getD-append}
+use lib.Seq.{getD-append-add}
+use Rattle.boxes.specs.Places.{product}
+
+pub product-length : {A B C : Type 0} (f : A → B → C) (xs : List A) (ys : List B) → length (product f xs ys) ≡ length xs * length ys
+unfolding product
+product-length f [] ys = sym (zero-mul (length ys))
+product-length f (x ∷ xs) ys =
+    omega (arith, length-append (map (f x) ys) (product f xs ys), length-map ys (f x), product-length f xs ys, suc-mul (length xs) (length ys))
+
+map-at : {A B : Type 0} (f : A → B) (xs : List A) (k : ℕ) (d : A) (d′ : B) → k < length xs → getD (map f xs) k d′ ≡ f (getD xs k d)
+map-at f [] k d d′ h = absurd (omega arith)
+map-at f (x ∷ xs) zero d d′ h = refl
+map-at f (x ∷ xs) (suc k) d d′ h = map-at f xs k d d′ (omega arith)
+
+-- the place of two positions
+pub product-at : {A B C : Type 0} (f : A → B → C) (xs : List A) (ys : List B) (q r : ℕ) → q < length xs → r < length ys → (a : A) (b : B) (d : C)
+    → getD (product f xs ys) (q * length ys + r) d ≡ f (getD xs q a) (getD ys r b)
+unfolding product
+product-at f [] ys q r hq hr a b d = absurd (omega arith)
+product-at f (x ∷ xs) ys zero r hq hr a b d =
+    ap (λ j. getD (map (f x) ys ++ product f xs ys) j d) (omega (arith, zero-mul (length ys)))
+    ∙ List·getD-append (map (f x) ys) (product f xs ys) d r (omega (arith, length-map ys (f x)))
+    ∙ map-at (f x) ys r b d hr
+product-at f (x ∷ xs) ys (suc q) r hq hr a b d =
+    ap (λ j. getD (map (f x) ys ++ product f xs ys) j d) (omega (arith, suc-mul q (length ys), length-map ys (f x)))
+    ∙ getD-append-add (map (f x) ys) (product f xs ys) (q * length ys + r) d
+    ∙ product-at f xs ys q r (omega arith) hr a b d
+
+right-some : (a b k : ℕ) → k < a * b → 0 < b
+right-some a zero k h = absurd (omega (arith, mul-zero a))
+right-some a (suc b) k h = omega arith
+
+-- the positions of a place, by division and remainder
+pub product-by-position : {A B C : Type 0} (f : A → B → C) (xs : List A) (ys : List B) (k : ℕ) → k < length xs * length ys → (a : A) (b : B) (d : C)
+    → getD (product f xs ys) k d ≡ f (getD xs (k / length ys) a) (getD ys (k % length ys) b)
+product-by-position f xs ys k h a b d =
+    let p = right-some (length xs) (length ys) k h in
+    ap (λ j. getD (product f xs ys) j d) (sym (div-add-mod' k (length ys)))
+    ∙ product-at f xs ys (k / length ys) (k % length ys) (div-lt-iff-lt-mul p .1 h) (mod-lt k p) a b d
