@@ -1,0 +1,5 @@
+pub mod Codes
+pub mod Tokens
+pub mod EqualKeepsTokens
+pub mod Safe
+pub mod Full
