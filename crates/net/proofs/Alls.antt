@@ -1,8 +1,10 @@
 -- A test of a whole list passes exactly when each of its members passes, and a test of two parts when both pass.
 -- Each law follows the list: the test of a list is the test of its head and the test of the rest.
+use Prim.Native.Nat.{ℕ, zero, suc}
 use mathlib.Core.Path.{_≡_, refl, sym, ap, subst, subst⁻¹, _∙_}
 use mathlib.Core.List.{List, [], _∷_, _++_, map, List·Memᴰ, List·Memᴰ·head, List·Memᴰ·tail}
 use mathlib.Core.Bool.{Bool, true, false, _&&_}
+use lib.ListN.{replicate}
 use lib.Dec.{T}
 use Rattle.net.specs.Check.{all}
 
@@ -41,7 +43,18 @@ unfolding all
 all-append f [] l = refl
 all-append f (x ∷ k) l = ap (λ (b : Bool). f x && b) (all-append f k l) ∙ sym (and-assoc (f x) (all f k) (all f l))
 
+pub all-join : {A : Type 0} (f : A → Bool) (k l : List A) → T (all f k) → T (all f l) → T (all f (k ++ l))
+all-join f k l p q = subst⁻¹ T (all-append f k l) (parts-and (all f k) (all f l) p q)
+
+pub all-split : {A : Type 0} (f : A → Bool) (k l : List A) → T (all f (k ++ l)) → T (all f k) × T (all f l)
+all-split f k l h = and-parts (all f k) (all f l) (subst T (all-append f k l) h)
+
 pub all-map : {A B : Type 0} (f : B → Bool) (g : A → B) (l : List A) → all f (map g l) ≡ all (λ x. f (g x)) l
 unfolding all
 all-map f g [] = refl
 all-map f g (x ∷ l) = ap (λ (b : Bool). f (g x) && b) (all-map f g l)
+
+pub all-replicate : {A : Type 0} (f : A → Bool) (n : ℕ) (x : A) → T (f x) → T (all f (replicate n x))
+unfolding all
+all-replicate f zero x h = tt
+all-replicate f (suc n) x h = parts-and (f x) (all f (replicate n x)) h (all-replicate f n x h)

@@ -1,2 +1,3 @@
 pub mod Alls
 pub mod ReadTables
+pub mod NetPasses

@@ -1,10 +1,10 @@
 -- The tables of a net, lent with whatever behind them, read back as the net's transitions.
 -- Transition by transition: six numbers further in the rows, and its two lists further in the arcs, lies the rest of the net.
-use Prim.Native.Nat.{ℕ, suc, _+_, _*_}
+use Prim.Native.Nat.{ℕ, suc, _+_, _*_, _≤_}
 use mathlib.Core.Path.{_≡_, refl, sym, ap, ap₂, _∙_}
 use mathlib.Core.List.{List, [], _∷_, _++_, append-assoc, append-nil}
 use native.Mathlib.Omega.{arith}
-use lib.ListN.{length, getD, take, drop}
+use lib.ListN.{length, getD, take, drop, length-append}
 use lib.Seq.{getD-drop, drop-drop, take-append-seam, drop-append-seam}
 use Rattle.net.specs.Net.{Transition, Net, place-count}
 use Rattle.net.specs.Tables.{Tables, kinds-of, rows-from, rows-of, arcs-from, arcs-of, tables-of, number, transition-at, transitions-from, transitions-in}
@@ -87,6 +87,10 @@ lent-tables N kinds rows arcs = record {
   transitions = length (N .transitions);
   arc-count = length (arcs-of N);
 }
+
+-- A lent table reaches the end of what stands at its front.
+pub lent-reaches : (n : ℕ) (l behind : List ℕ) → length l ≡ n → n ≤ length (l ++ behind)
+lent-reaches n l behind e = rw length-append (omega arith)
 
 pub lent-read-back : (N : Net) (kinds rows arcs : List ℕ) → transitions-in (lent-tables N kinds rows arcs) ≡ N .transitions
 unfolding transitions-in rows-of arcs-of
