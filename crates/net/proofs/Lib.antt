@@ -1,0 +1,4 @@
+pub mod Alls
+pub mod ReadTables
+pub mod NetPasses
+pub mod Marking
