@@ -3,3 +3,7 @@ pub mod Tokens
 pub mod EqualKeepsTokens
 pub mod Safe
 pub mod Full
+pub mod Numbering
+pub mod PlaceNames
+pub mod Flows
+pub mod FlatSteps

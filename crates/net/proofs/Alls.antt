@@ -6,22 +6,8 @@ use mathlib.Core.List.{List, [], _∷_, _++_, map, List·Memᴰ, List·Memᴰ·h
 use mathlib.Core.Bool.{Bool, true, false, _&&_}
 use lib.ListN.{replicate}
 use lib.Dec.{T}
+use Rattle.field.proofs.Tests.{and-parts, parts-and}
 use Rattle.net.specs.Check.{all}
-
-pub T-true : (b : Bool) → T b → b ≡ true
-T-true true h = refl
-T-true false h = absurd h
-
-pub true-T : (b : Bool) → b ≡ true → T b
-true-T b e = subst⁻¹ T e tt
-
-pub and-parts : (a b : Bool) → T (a && b) → T a × T b
-and-parts true b h = (tt, h)
-and-parts false b h = absurd h
-
-pub parts-and : (a b : Bool) → T a → T b → T (a && b)
-parts-and true b p q = q
-parts-and false b p q = absurd p
 
 pub and-assoc : (a b c : Bool) → ((a && b) && c) ≡ (a && (b && c))
 and-assoc true b c = refl

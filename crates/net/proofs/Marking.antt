@@ -11,7 +11,8 @@ use Rattle.field.specs.Answer.{good}
 use Rattle.net.specs.Net.{Net, place-count}
 use Rattle.net.specs.Check.{all}
 use Rattle.net.specs.Marking.{check-marking, entry-marking}
-use Rattle.net.proofs.Alls.{T-true, all-join, all-replicate}
+use Rattle.field.proofs.Tests.{T-true}
+use Rattle.net.proofs.Alls.{all-join, all-replicate}
 use Rattle.net.proofs.ReadTables.{lent-reaches}
 
 pub entry-marking-length : (N : Net) → length (entry-marking N) ≡ place-count N

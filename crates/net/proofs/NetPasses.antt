@@ -15,7 +15,7 @@ use Rattle.field.specs.Answer.{good, check}
 use Rattle.net.specs.Net.{Transition, Net, place-count}
 use Rattle.net.specs.Tables.{Tables, kinds-of, rows-from, rows-of, arcs-from, arcs-of, tables-of, number, transitions-in}
 use Rattle.net.specs.Check.{all, counts-fit, tables-reach, kinds-after, kinds-ordered, lists-rise, starts-meet, codes-fit, pairs-differ, is-net, check-net}
-use Rattle.net.proofs.Alls.{T-true, parts-and}
+use Rattle.field.proofs.Tests.{T-true, parts-and}
 use Rattle.net.proofs.ReadTables.{RowsFrom, next-start, number-in, rows-next, lent-tables, lent-reaches, lent-read-back, lent-nothing}
 
 -- What check 30 asks of a net: a place of kind 1 and one of kind 3, the limits, and the tests on its transitions.
