@@ -5,7 +5,7 @@ use mathlib.Core.Path.{_≡_, refl}
 use mathlib.Core.List.{List, [], _∷_, _++_, map}
 use lib.ListN.{length, replicate}
 use Rattle.field.specs.Answer.{good, refused}
-use Rattle.net.specs.Net.{none}
+use Rattle.net.specs.Tables.{none}
 use Rattle.boxes.specs.Compile.{Lent, Counts, Compiled, compile}
 
 abbrev pub lent : Lent

@@ -5,8 +5,8 @@ use mathlib.Core.Bool.{Bool, true, false, cond, _||_}
 use lib.ListN.{length}
 use lib.Dec.{eqb}
 use Rattle.plan.specs.Expr.{Expr}
-use Rattle.plan.specs.Item.{Item, one, two, first}
-use Rattle.net.specs.Net.{Transition, Net, none}
+use Rattle.plan.specs.Item.{Item, one, two}
+use Rattle.net.specs.Net.{Transition, Net}
 use Rattle.boxes.specs.Places.{Place, entry, exit, sequence-place, choice-entry, choice-exit, loop-place, entries, internals, exits, places}
 use Rattle.boxes.specs.Transitions.{Labelled, transitions}
 
@@ -39,17 +39,11 @@ unfoldable pub numbers : (Place → Bool) → ℕ → List Place → List ℕ
 numbers f k [] = []
 numbers f k (p ∷ ps) = cond (f p) (k ∷ numbers f (suc k) ps) (numbers f (suc k) ps)
 
--- "second action or 65,535"
-abbrev pub second : Item → ℕ
-second (one i) = none
-second (two i j) = j
-
 unfoldable pub transition-of : List Place → Labelled → Transition
 unfolding numbers consumes produces
 transition-of ps t = record {
   label = t .label;
-  first = first (t .item);
-  second = second (t .item);
+  item = t .item;
   inputs = numbers (by-item consumes (t .item)) 0 ps;
   outputs = numbers (by-item produces (t .item)) 0 ps;
 }

@@ -111,7 +111,7 @@ module _ (N : Net) (o : Orderly N) (kinds rows arcs : List ℕ) where
 
   -- A test of the net's transitions that passes also passes of the transitions in the lent tables.
   read-pass : (test : List Transition → Bool) → T (test (N .transitions)) → T (test (transitions-in lent))
-  read-pass test h = subst⁻¹ (λ (ts : List Transition). T (test ts)) (lent-read-back N kinds rows arcs) h
+  read-pass test h = subst⁻¹ (λ (ts : List Transition). T (test ts)) (lent-read-back N (o .codes) kinds rows arcs) h
 
   lent-is-net : T (is-net lent)
   unfolding is-net

@@ -1,13 +1,14 @@
 -- 01, "Refusal numbers", the paragraph on 30: what makes tables no net, test by test in its order.
 use Prim.Native.Nat.{ℕ, zero, suc, _+_, _*_}
 use mathlib.Core.List.{List, [], _∷_, _++_}
-use mathlib.Core.Bool.{Bool, true, false, not, _&&_, _||_}
+use mathlib.Core.Bool.{Bool, true, false, not, _&&_}
 use lib.ListN.{length, take}
 use lib.Dec.{eqb, leb, ltb}
 use Rattle.field.specs.Limits.{place-limit, transition-limit, arc-limit}
 use Rattle.field.specs.Refusals.{no-net}
 use Rattle.field.specs.Answer.{Answer, check}
-use Rattle.net.specs.Net.{Transition, none}
+use Rattle.plan.specs.Item.{Item, one, two, same-item}
+use Rattle.net.specs.Net.{Transition}
 use Rattle.net.specs.Tables.{Tables, number, transitions-in}
 
 unfoldable pub all : {A : Type 0} → (A → Bool) → List A → Bool
@@ -47,17 +48,18 @@ starts-meet T start t zero = eqb start (T .arc-count)
 starts-meet T start t (suc n) = eqb (number T t 3) start && starts-meet T (start + (number T t 4 + number T t 5)) (suc t) n
 
 -- "a label that is 128 or above 255, an action above 255 (65,535 as second aside)"
+abbrev pub actions-fit : Item → Bool
+actions-fit (one i) = leb i 255
+actions-fit (two i j) = leb i 255 && leb j 255
+
 unfoldable pub codes-fit : Transition → Bool
-codes-fit t = not (eqb (t .label) 128) && (leb (t .label) 255 && (leb (t .first) 255 && (leb (t .second) 255 || eqb (t .second) none)))
+codes-fit t = not (eqb (t .label) 128) && (leb (t .label) 255 && actions-fit (t .item))
 
 -- "or two transitions of the same action pair"
-unfoldable pub same-pair : Transition → Transition → Bool
-same-pair t u = eqb (t .first) (u .first) && eqb (t .second) (u .second)
-
 unfoldable pub pairs-differ : List Transition → Bool
-unfolding same-pair all
+unfolding same-item all
 pairs-differ [] = true
-pairs-differ (t ∷ ts) = all (λ u. not (same-pair t u)) ts && pairs-differ ts
+pairs-differ (t ∷ ts) = all (λ u. not (same-item (t .item) (u .item))) ts && pairs-differ ts
 
 unfoldable pub is-net : Tables → Bool
 unfolding counts-fit tables-reach kinds-ordered all lists-rise starts-meet codes-fit pairs-differ transitions-in

@@ -1,18 +1,29 @@
 -- 01, "Net tables": the three tables of a net, and what three lent tables with their three counts say.
 use Prim.Native.Nat.{ℕ, zero, suc, _+_, _*_}
 use mathlib.Core.List.{List, [], _∷_, _++_}
+use mathlib.Core.Bool.{cond}
 use lib.ListN.{length, getD, take, drop, replicate}
+use lib.Dec.{eqb}
+use Rattle.plan.specs.Item.{Item, one, two, first}
 use Rattle.net.specs.Net.{Transition, Net, place-count}
 
 -- "a byte per place (1 entry, 2 internal, 3 exit)"
 unfoldable pub kinds-of : Net → List ℕ
 kinds-of N = replicate (N .entries) 1 ++ (replicate (N .internals) 2 ++ replicate (N .exits) 3)
 
+-- "second action or 65,535"
+abbrev pub none : ℕ
+none = 65535
+
+abbrev pub second : Item → ℕ
+second (one i) = none
+second (two i j) = j
+
 -- "six 16-bit numbers per transition (label, first action, second action or 65,535, start in the arc list, input count, output count)"
 unfoldable pub rows-from : ℕ → List Transition → List ℕ
 rows-from start [] = []
 rows-from start (t ∷ ts) =
-    t .label ∷ (t .first ∷ (t .second ∷ (start ∷ (length (t .inputs) ∷ (length (t .outputs)
+    t .label ∷ (first (t .item) ∷ (second (t .item) ∷ (start ∷ (length (t .inputs) ∷ (length (t .outputs)
     ∷ rows-from (start + (length (t .inputs) + length (t .outputs))) ts)))))
 
 unfoldable pub rows-of : Net → List ℕ
@@ -52,12 +63,15 @@ tables-of N = record {
 abbrev pub number : Tables → ℕ → ℕ → ℕ
 number T t k = getD (T .rows) (6 * t + k) 0
 
+-- The item of a first action and a second or 65,535.
+abbrev pub item-of : ℕ → ℕ → Item
+item-of i j = cond (eqb j none) (one i) (two i j)
+
 -- Transition t, as the tables have it.
 unfoldable pub transition-at : Tables → ℕ → Transition
 transition-at T t = record {
   label = number T t 0;
-  first = number T t 1;
-  second = number T t 2;
+  item = item-of (number T t 1) (number T t 2);
   inputs = take (number T t 4) (drop (number T t 3) (T .arcs));
   outputs = take (number T t 5) (drop (number T t 3 + number T t 4) (T .arcs));
 }

@@ -1,19 +1,19 @@
 -- 01, "Run records": when a step fires at a marking of a net, by its items, and the marking afterwards; "31 over all items, 32, 33, 36".
 use Prim.Native.Nat.{ℕ, zero, suc, _+_, _-_}
 use mathlib.Core.List.{List, [], _∷_, _++_}
-use mathlib.Core.Bool.{Bool, true, false, cond, not, _&&_, _||_}
+use mathlib.Core.Bool.{Bool, true, false, cond}
 use lib.ListN.{getD}
 use lib.Dec.{eqb, leb}
 use Rattle.field.specs.Refusals.{no-transition, input-empty, input-shared, two-tokens}
 use Rattle.field.specs.Answer.{Answer, good, refused, _>>=_, _>>_, check}
-use Rattle.plan.specs.Item.{Item, one, two}
-use Rattle.net.specs.Net.{Transition, none}
+use Rattle.plan.specs.Item.{Item, same-item}
+use Rattle.net.specs.Net.{Transition}
 use Rattle.net.specs.Check.{all}
 
 -- An item names the transitions that have its actions.
 unfoldable pub names : Item → Transition → Bool
-names (one i) t = eqb (t .first) i && eqb (t .second) none
-names (two i j) t = eqb (t .first) i && eqb (t .second) j
+unfolding same-item
+names i t = same-item i (t .item)
 
 -- "item names no transition", with the item's position; else the lowest-numbered one that it names.
 unfoldable pub named-by : ℕ → Item → List Transition → Answer Transition
