@@ -1,3 +1,4 @@
 pub mod KnownNets
 pub mod Products
 pub mod Lengths
+pub mod CountsCutOff
