@@ -2,3 +2,5 @@ pub mod KnownNets
 pub mod Products
 pub mod Lengths
 pub mod CountsCutOff
+pub mod LargeNets
+pub mod AtTheLimits
