@@ -1,3 +1,5 @@
 pub mod KnownNets
 pub mod Products
 pub mod Lengths
+pub mod CountsCutOff
+pub mod LargeNets
