@@ -1,3 +1,4 @@
 pub mod Operators
 pub mod Within
 pub mod ReadBack
+pub mod Exact
