@@ -2,3 +2,4 @@ pub mod Operators
 pub mod Within
 pub mod ReadBack
 pub mod Exact
+pub mod Loops
