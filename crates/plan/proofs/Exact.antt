@@ -1,12 +1,12 @@
 -- Reading accepts nothing else: what is read is within the limits, takes all the bytes of the plan, and its bytes are the plan's.
 -- True by induction over the levels that are left: each test that was passed is one part of this, and operands take their part of the body whole.
-use Prim.Native.Nat.{ℕ, zero, suc, _+_, _-_, _≤_, _<_, min}
+use Prim.Native.Nat.{ℕ, zero, suc, _+_, _-_, _≤_, _<_}
 use mathlib.Core.Path.{_≡_, refl, sym, ap, ap₂, _∙_, subst}
 use mathlib.Core.List.{List, [], _∷_, _++_, append-nil}
 use mathlib.Core.Bool.{Bool, true, false, cond}
 use native.Mathlib.Omega.{arith}
-use lib.ListN.{length, getD, take, drop, length-append, length-drop, length-take, take-append-drop}
-use lib.Seq.{drop-cons, getD-drop, getD-take, getD-append-add}
+use lib.ListN.{length, getD, take, drop, length-append, length-drop, take-append-drop}
+use lib.Seq.{drop-cons}
 use lib.Dec.{T, eqb, leb, ltb}
 use borrow.Author.Tests.{leb-true, ltb-true, eqb-true}
 use Rattle.field.specs.Limits.{plan-limit, depth-limit, action-limit}
@@ -23,21 +23,7 @@ use Rattle.plan.specs.Bytes.{encode, depth, named, within-limits}
 use Rattle.plan.proofs.Operators.{Operator, sequence-of, choice-of, parallel-of, loop-of, scope-of, tag-number, tag, number, arity, own, own-named, built, all-encode, all-bytes, all-actions, all-depth, all-named, built-encode, built-bytes, built-actions, built-depth, built-named}
 use Rattle.plan.proofs.Within.{Within, within-the-limits}
 use Rattle.plan.proofs.ReadBack.{encode-length}
-
--- each member is a byte
-abbrev Bytes : List ℕ → Type 0
-Bytes s = (i : ℕ) → i < length s → getD s i 0 < 256
-
-drop-are-bytes : (n : ℕ) (s : List ℕ) → Bytes s → Bytes (drop n s)
-drop-are-bytes n s b i h = rw (getD-drop n s i 0) (b (n + i) (omega (arith, length-drop n s)))
-
-take-are-bytes : (n : ℕ) (s : List ℕ) → Bytes s → Bytes (take n s)
-take-are-bytes n s b i h =
-    let l : length (take n s) ≡ min n (length s) = length-take n s in
-    rw (getD-take n s i 0 (omega arith)) (b i (omega arith))
-
-rest-are-bytes : (s t : List ℕ) → Bytes (s ++ t) → Bytes t
-rest-are-bytes s t b i h = rw (getD-append-add s t i 0) at (b (length s + i) (omega (arith, length-append s t)))
+use Rattle.plan.proofs.AreBytes.{AreBytes, drop-are-bytes, take-are-bytes, rest-are-bytes}
 
 one-byte : (s : List ℕ) → length s ≡ 1 → s ≡ getD s 0 0 ∷ []
 one-byte [] e = absurd (let z : ⊥ = omega arith in z)
@@ -70,7 +56,7 @@ record Says (d : ℕ) (s : List ℕ) (n : ℕ) (p : Part) : Type 0 where
   few : n ≤ action-limit → p .so-far ≤ action-limit
   shallow : depth (p .expr) ≤ d
   labelled : T (named (p .expr))
-  front : Bytes s → take (p .bytes) s ≡ encode (p .expr)
+  front : AreBytes s → take (p .bytes) s ≡ encode (p .expr)
 
 -- what is read of a body is the operands whose bytes it has
 record AllSay (d k : ℕ) (s : List ℕ) (n : ℕ) (p : Parts k) : Type 0 where
@@ -79,7 +65,7 @@ record AllSay (d k : ℕ) (s : List ℕ) (n : ℕ) (p : Parts k) : Type 0 where
   few : n ≤ action-limit → p .so-far ≤ action-limit
   shallow : all-depth k (p .operands) ≤ d
   labelled : T (all-named k (p .operands))
-  whole : Bytes s → s ≡ all-encode k (p .operands)
+  whole : AreBytes s → s ≡ all-encode k (p .operands)
 
 -- an operand at the front of a body, and the operands after it
 next-says : (d k : ℕ) (s : List ℕ) (n : ℕ) (f : Part) (r : Parts k) → Says d s n f → AllSay d k (drop (f .bytes) s) (f .so-far) r
@@ -115,10 +101,10 @@ record Header (s : List ℕ) (g : Tag) : Type 0 where
   tagged : tag-of s ≡ tag-number g
   room : length-of s ≤ length s - 3
 
-header-front : (s : List ℕ) (g : Tag) → Header s g → Bytes s → take (3 + length-of s) s ≡ field (tag-number g) (body-of s)
+header-front : (s : List ℕ) (g : Tag) → Header s g → AreBytes s → take (3 + length-of s) s ≡ field (tag-number g) (body-of s)
 header-front s g h b = rw (h .tagged) at (field-front s (h .long) (h .room) (b 2 (h .long)))
 
-body-are-bytes : (s : List ℕ) → Bytes s → Bytes (body-of s)
+body-are-bytes : (s : List ℕ) → AreBytes s → AreBytes (body-of s)
 body-are-bytes s b = take-are-bytes (length-of s) (drop 3 s) (drop-are-bytes 3 s b)
 
 -- the operands behind an operator's own bytes
@@ -193,7 +179,7 @@ field-says (suc d) s at n p e =
 record PlanSays (s : List ℕ) (E : Expr) : Type 0 where
   counted : bytes E ≡ length s
   within : Within E
-  whole : Bytes s → s ≡ encode E
+  whole : AreBytes s → s ≡ encode E
 
 plan-parts : (s : List ℕ) (E : Expr) → read-plan s ≡ good E
     → (p : Parts 1) × (length s ≤ plan-limit) × (read-operands (read-field depth-limit) 1 s 0 0 ≡ good p) × (p .operands .0 ≡ E)
