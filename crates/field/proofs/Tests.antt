@@ -1,4 +1,4 @@
--- A test joined of two is passed exactly when both are; so is an equation with true.
+-- A test joined of two is passed exactly when both are passed, and a test is passed exactly when it is true.
 -- True by the clauses of the tests.
 use mathlib.Core.Path.{_≡_, refl}
 use mathlib.Core.Bool.{Bool, true, false, _&&_}

@@ -1,5 +1,7 @@
 pub mod Operators
 pub mod Within
+pub mod AreBytes
 pub mod ReadBack
+pub mod Exact
 pub mod Loops
 pub mod AtTheLimits

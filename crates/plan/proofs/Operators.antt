@@ -9,9 +9,17 @@ use lib.ListN.{length}
 use Rattle.field.specs.Answer.{good}
 use Rattle.field.specs.Field.{field}
 use Rattle.plan.specs.Expr.{Expr, action, sequence, choice, parallel, loop, scope, actions}
-use Rattle.plan.specs.Reading.{is-name, Tag, sequence-tag, choice-tag, parallel-tag, loop-tag, scope-tag, tag-at, Operands}
+use Rattle.plan.specs.Reading.{is-name, Tag, action-tag, sequence-tag, choice-tag, parallel-tag, loop-tag, scope-tag, tag-at, Operands}
 use Rattle.plan.specs.Exclusive.{bytes}
 use Rattle.plan.specs.Bytes.{encode, depth, named}
+
+abbrev pub tag-number : Tag → ℕ
+tag-number action-tag = 1
+tag-number sequence-tag = 2
+tag-number choice-tag = 3
+tag-number parallel-tag = 4
+tag-number loop-tag = 5
+tag-number scope-tag = 6
 
 pub data Operator : Type 0 where
   sequence-of choice-of parallel-of loop-of : Operator
@@ -25,11 +33,7 @@ tag loop-of = loop-tag
 tag (scope-of a) = scope-tag
 
 abbrev pub number : Operator → ℕ
-number sequence-of = 2
-number choice-of = 3
-number parallel-of = 4
-number loop-of = 5
-number (scope-of a) = 6
+number o = tag-number (tag o)
 
 abbrev pub arity : Operator → ℕ
 arity sequence-of = 2
@@ -81,13 +85,14 @@ abbrev pub all-named : (k : ℕ) → Operands k → Bool
 all-named zero es = true
 all-named (suc k) es = named (es .0) && all-named k (es .1)
 
-pub number-tag : (o : Operator) (at : ℕ) → tag-at (number o) at ≡ good (tag o)
+pub number-tag : (g : Tag) (at : ℕ) → tag-at (tag-number g) at ≡ good g
 unfolding tag-at
-number-tag sequence-of at = refl
-number-tag choice-of at = refl
-number-tag parallel-of at = refl
-number-tag loop-of at = refl
-number-tag (scope-of a) at = refl
+number-tag action-tag at = refl
+number-tag sequence-tag at = refl
+number-tag choice-tag at = refl
+number-tag parallel-tag at = refl
+number-tag loop-tag at = refl
+number-tag scope-tag at = refl
 
 pub built-encode : (o : Operator) (es : Operands (arity o)) → encode (built o es) ≡ field (number o) (own o ++ all-encode (arity o) es)
 unfolding encode

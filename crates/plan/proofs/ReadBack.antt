@@ -100,9 +100,9 @@ own-reads read loop-of body at b n t = refl
 own-reads read (scope-of a) body at b n t = rw (le-leb 1 (length (a ∷ body)) (omega arith), T-true (is-name a) t)
 
 action-reads : (l : ℕ) → Reads (action l)
-unfolding encode depth named actions bytes read-body tag-at
+unfolding encode depth named actions bytes read-body
 action-reads l zero h t rest at n m = absurd (let z : ⊥ = omega arith in z)
-action-reads l (suc d) h t rest at n m = header-reads d 1 action-tag (l ∷ []) rest at n refl ∙ rw (T-true (is-label l) t, lt-ltb n action-limit (omega arith))
+action-reads l (suc d) h t rest at n m = header-reads d 1 action-tag (l ∷ []) rest at n (number-tag action-tag at) ∙ rw (T-true (is-label l) t, lt-ltb n action-limit (omega arith))
 
 built-reads : (o : Operator) (es : Operands (arity o)) → Each Reads (arity o) es → Reads (built o es)
 built-reads o es h zero g t rest at n m = absurd (let z : ⊥ = omega (arith, built-depth o es) in z)
@@ -113,7 +113,7 @@ built-reads o es h (suc d) g t rest at n m =
     let ms : n + all-actions (arity o) es ≤ action-limit = omega (arith, built-actions o es) in
     let l : 3 + length body ≡ bytes (built o es) = sym (field-length (number o) body) ∙ ap length (sym (built-encode o es)) ∙ encode-length (built o es) in
     rw (built-encode o es)
-    (header-reads d (number o) (tag o) body rest at n (number-tag o at)
+    (header-reads d (number o) (tag o) body rest at n (number-tag (tag o) at)
     ∙ own-reads (read-field d) o (all-encode (arity o) es) at (3 + length body) n (ts .0)
     ∙ rw (operands-read d (arity o) es h ds (ts .1) (at + (3 + length (own o))) n ms, l, built-actions o es))
 
