@@ -1,9 +1,9 @@
 -- Whether any element of a list passes a test: laws for joined lists and for products.
 -- Some element passes exactly if there is one in the list that passes, and a product holds each element of a side as a part.
-use Prim.Native.Nat.{ℕ, _≤_}
-use mathlib.Core.Path.{_≡_, refl, subst}
+use Prim.Native.Nat.{_≤_}
+use mathlib.Core.Path.{refl, subst}
 use mathlib.Core.Logic.{_⊎_, inl, inr, ⊎-elim}
-use mathlib.Core.Bool.{Bool, true, false, _||_}
+use mathlib.Core.Bool.{Bool, false, _||_}
 use mathlib.Core.List.{List, [], _∷_, _++_, List·Memᴰ, List·Memᴰ·head, List·Memᴰ·tail, List·Memᴰ·append-cases, Memᴰ·append-left, Memᴰ·append-right}
 use lib.ListN.{length}
 use lib.Dec.{T}
@@ -40,9 +40,6 @@ module _ {A : Type 0} (f : A → Bool) where
   pub any-cases : (xs ys : List A) → T (any f (xs ++ ys)) → T (any f xs) ⊎ T (any f ys)
   any-cases xs ys t = let r = any-member (xs ++ ys) t in
       ⊎-elim (λ m. inl (any-of-member m (r .2))) (λ m. inr (any-of-member m (r .2))) (List·Memᴰ·append-cases xs (r .1))
-
-  pub any-swap : (xs ys : List A) → T (any f (xs ++ ys)) → T (any f (ys ++ xs))
-  any-swap xs ys t = ⊎-elim (any-right ys xs) (any-left ys xs) (any-cases xs ys t)
 
 pub any-weaker : {A : Type 0} (f g : A → Bool) → ((x : A) → T (f x) → T (g x)) → (xs : List A) → T (any f xs) → T (any g xs)
 any-weaker f g h xs t = let r = any-member f xs t in any-of-member g (r .1) (h (r .0) (r .2))

@@ -5,3 +5,5 @@ pub mod Tests
 pub mod Members
 pub mod Anys
 pub mod ArcsRise
+pub mod EntriesAndExits
+pub mod EveryStepHasAnInput

@@ -1,14 +1,18 @@
--- What is in a selection is in the list and passes, and the other way round; a list that is not empty has an element.
--- A selection walks the list and leaves out what does not pass.
-use Prim.Native.Nat.{ℕ, _≤_}
+-- What is in a selection is in the list and passes, and the other way round; a scope's joined transitions are those of its pairs, and the other way round.
+-- A selection walks the list and leaves out what does not pass; the joined transitions are a selection of a product.
+use Prim.Native.Nat.{ℕ, _+_, _≤_}
 use native.Mathlib.Omega.{arith}
-use mathlib.Core.Path.{_≡_, refl, sym, subst}
+use mathlib.Core.Path.{_≡_, refl, sym, _∙_, ap, subst}
 use mathlib.Core.Logic.{_⊎_, inl, inr}
 use mathlib.Core.Bool.{Bool, true, false, cond}
-use mathlib.Core.List.{List, [], _∷_, List·Memᴰ, List·Memᴰ·head, List·Memᴰ·tail, List·Memᴰ·not-nil, List·Memᴰ·cases-cons}
+use mathlib.Core.List.{List, [], _∷_, List·Memᴰ, List·Memᴰ·head, List·Memᴰ·tail, List·Memᴰ·not-nil, List·Memᴰ·cases-cons, Memᴰ·cast, Memᴰ·map, Memᴰ·of-map}
 use lib.ListN.{length}
 use lib.Dec.{T}
-use Rattle.boxes.specs.Transitions.{select}
+use Rattle.plan.specs.Expr.{Expr}
+use Rattle.plan.specs.Item.{first}
+use Rattle.boxes.specs.Places.{product}
+use Rattle.boxes.specs.Transitions.{Labelled, Pair, paired, silent, labelled, select, joined, part-at-parallel}
+use Rattle.boxes.proofs.Products.{product-member, product-of-members}
 
 module _ {A : Type 0} where
   pub member-some : (xs : List A) → 1 ≤ length xs → (x : A) × List·Memᴰ x xs
@@ -46,3 +50,44 @@ module _ {A : Type 0} where
       go : (b : Bool) → List·Memᴰ x (select ok ys) → List·Memᴰ x (cond b (y ∷ select ok ys) (select ok ys))
       go true m = List·Memᴰ·tail m
       go false m = m
+
+-- what a joined transition v of scope a is made of
+pub record JoinedOf (n : ℕ) (E : Expr) (a : ℕ) (ts : List Labelled) (v : Labelled) : Type 0 where
+  pub t : Labelled
+  pub u : Labelled
+  pub t-in : List·Memᴰ t ts
+  pub u-in : List·Memᴰ u ts
+  pub t-labelled : T (labelled a t)
+  pub u-labelled : T (labelled (a + 128) u)
+  pub parts : T (part-at-parallel n E (first (t .item)) (first (u .item)))
+  pub made : v ≡ silent (paired t u)
+
+pub joined-member : (n : ℕ) (E : Expr) (a : ℕ) (ts : List Labelled) {v : Labelled} → List·Memᴰ v (joined n E a ts) → JoinedOf n E a ts v
+unfolding joined
+joined-member n E a ts m =
+    let ok : Pair → Bool = λ p. part-at-parallel n E (first (p .t .item)) (first (p .u .item)) in
+    let left = select (labelled a) ts in
+    let right = select (labelled (a + 128)) ts in
+    let r = Memᴰ·of-map silent (select ok (product paired left right)) m in
+    let s = select-member ok (product paired left right) (r .1) in
+    let q = product-member paired left right (s .0) in
+    let t = select-member (labelled a) ts (q .2) in
+    let u = select-member (labelled (a + 128)) ts (q .3) in
+    record {
+      t = q .0;
+      u = q .1;
+      t-in = t .0;
+      u-in = u .0;
+      t-labelled = t .1;
+      u-labelled = u .1;
+      parts = subst (λ p. T (ok p)) (q .4) (s .1);
+      made = sym (r .2) ∙ ap silent (q .4);
+    }
+
+pub joined-of-member : (n : ℕ) (E : Expr) (a : ℕ) (ts : List Labelled) {v : Labelled} → JoinedOf n E a ts v → List·Memᴰ v (joined n E a ts)
+unfolding joined
+joined-of-member n E a ts j =
+    let ok : Pair → Bool = λ p. part-at-parallel n E (first (p .t .item)) (first (p .u .item)) in
+    Memᴰ·cast (j .made)
+    (Memᴰ·map silent
+    (select-of-member ok (product-of-members paired (select-of-member (labelled a) (j .t-in) (j .t-labelled)) (select-of-member (labelled (a + 128)) (j .u-in) (j .u-labelled))) (j .parts)))

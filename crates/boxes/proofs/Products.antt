@@ -1,8 +1,8 @@
--- 01, "A×B runs over A, and for each over B": how long a product is, and what stands at each position of it.
+-- 01, "A×B runs over A, and for each over B": how long a product is, what stands at each position of it, and what is in it.
 -- Over A first means that the k-th pair has the (k / |B|)-th of A and the (k % |B|)-th of B. One law serves products of two, three and four.
-use Prim.Native.Nat.{ℕ, zero, suc, _+_, _*_, _/_, _%_, _<_}
+use Prim.Native.Nat.{ℕ, zero, suc, _+_, _*_, _/_, _%_, _≤_, _<_}
 use native.Mathlib.Omega.{arith}
-use native.Mathlib.Nat.{mod-lt, div-add-mod', div-lt-iff-lt-mul, suc-mul, zero-mul, mul-zero}
+use native.Mathlib.Nat.{mod-lt, div-add-mod', div-lt-iff-lt-mul, suc-mul, zero-mul, mul-zero, mul-le-mul}
 use mathlib.Core.Path.{_≡_, refl, sym, _∙_, ap}
 use mathlib.Core.Logic.{_⊎_, inl, inr}
 use mathlib.Core.List.{List, [], _∷_, _++_, map, List·Memᴰ, List·Memᴰ·head, List·Memᴰ·tail, List·Memᴰ·not-nil, List·Memᴰ·append-cases, Memᴰ·append-left, Memᴰ·append-right, Memᴰ·cast, Memᴰ·map, Memᴰ·of-map}
@@ -15,6 +15,9 @@ unfolding product
 product-length f [] ys = sym (zero-mul (length ys))
 product-length f (x ∷ xs) ys =
     omega (arith, length-append (map (f x) ys) (product f xs ys), length-map ys (f x), product-length f xs ys, suc-mul (length xs) (length ys))
+
+pub product-some : {A B C : Type 0} (f : A → B → C) (xs : List A) (ys : List B) → 1 ≤ length xs → 1 ≤ length ys → 1 ≤ length (product f xs ys)
+product-some f xs ys h k = omega (arith, product-length f xs ys, mul-le-mul h k)
 
 map-at : {A B : Type 0} (f : A → B) (xs : List A) (k : ℕ) (d : A) (d′ : B) → k < length xs → getD (map f xs) k d′ ≡ f (getD xs k d)
 map-at f [] k d d′ h = absurd (omega arith)
