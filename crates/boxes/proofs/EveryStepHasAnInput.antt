@@ -169,15 +169,13 @@ first-in-range lo hi (two i j) r = (r .0, r .1)
 abbrev AllInRange : ℕ → ℕ → List Labelled → Type 0
 AllInRange lo hi ts = (t : Labelled) → List·Memᴰ t ts → InRange lo hi (t .item)
 
-range-append : (n a b : ℕ) (ts us : List Labelled) → AllInRange n (n + a) ts → AllInRange (n + a) (n + a + b) us → AllInRange n (n + (a + b)) (ts ++ us)
-range-append n a b ts us p q t m =
-    ⊎-elim (λ k. range-wider n (n + a) n (n + (a + b)) (omega arith) (omega arith) (t .item) (p t k))
-    (λ k. range-wider (n + a) (n + a + b) n (n + (a + b)) (omega arith) (omega arith) (t .item) (q t k))
-    (List·Memᴰ·append-cases ts m)
-
 operands-in-range : (n : ℕ) (E F : Expr) → AllInRange n (n + actions E) (transitions n E) → AllInRange (n + actions E) (n + actions E + actions F) (transitions (n + actions E) F)
     → AllInRange n (n + (actions E + actions F)) (transitions n E ++ transitions (n + actions E) F)
-operands-in-range n E F = range-append n (actions E) (actions F) (transitions n E) (transitions (n + actions E) F)
+operands-in-range n E F p q t m =
+    let l = n + actions E in
+    let top = n + (actions E + actions F) in
+    ⊎-elim (λ k. range-wider n l n top (omega arith) (omega arith) (t .item) (p t k)) (λ k. range-wider l (l + actions F) n top (omega arith) (omega arith) (t .item) (q t k))
+    (List·Memᴰ·append-cases (transitions n E) m)
 
 -- A scope keeps items or joins two of them.
 scope-in-range : (lo hi n : ℕ) (E : Expr) (a : ℕ) (ts : List Labelled) → AllInRange lo hi ts → AllInRange lo hi (kept a ts ++ joined n E a ts)
@@ -199,10 +197,8 @@ items-in-range n (choice E F) t m = operands-in-range n E F (items-in-range n E)
 items-in-range n (parallel E F) t m = operands-in-range n E F (items-in-range n E) (items-in-range (n + actions E) F) t m
 items-in-range n (loop E F G) t m =
     let l = n + actions E in
-    let k = l + actions F in
     range-wider n (n + (actions E + (actions F + actions G))) n (n + (actions E + actions F + actions G)) (omega arith) (omega arith) (t .item)
-    (range-append n (actions E) (actions F + actions G) (transitions n E) (transitions l F ++ transitions k G) (items-in-range n E)
-    (operands-in-range l F G (items-in-range l F) (items-in-range k G)) t m)
+    (operands-in-range n E (sequence F G) (items-in-range n E) (operands-in-range l F G (items-in-range l F) (items-in-range (l + actions F) G)) t m)
 items-in-range n (scope a E) t m = scope-in-range n (n + actions E) n E a (transitions n E) (items-in-range n E) t m
 
 -- Where each action of a range has a place, so has each item of it.

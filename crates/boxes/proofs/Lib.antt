@@ -7,3 +7,4 @@ pub mod Anys
 pub mod ArcsRise
 pub mod EntriesAndExits
 pub mod EveryStepHasAnInput
+pub mod PairsDiffer

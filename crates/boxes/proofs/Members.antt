@@ -1,4 +1,4 @@
--- What is in a selection is in the list and passes, and the other way round; a scope's joined transitions are those of its pairs, and the other way round.
+-- What is in a selection is in the list and passes, and the other way round; so a scope's joined transitions are those of its pairs, and the other way round.
 -- A selection walks the list and leaves out what does not pass; the joined transitions are a selection of a product.
 use Prim.Native.Nat.{ℕ, _+_, _≤_}
 use native.Mathlib.Omega.{arith}
@@ -10,14 +10,21 @@ use lib.ListN.{length}
 use lib.Dec.{T}
 use Rattle.plan.specs.Expr.{Expr}
 use Rattle.plan.specs.Item.{first}
+use Rattle.net.specs.Check.{all}
 use Rattle.boxes.specs.Places.{product}
 use Rattle.boxes.specs.Transitions.{Labelled, Pair, paired, silent, labelled, select, joined, part-at-parallel}
+use Rattle.boxes.proofs.Tests.{and-of}
 use Rattle.boxes.proofs.Products.{product-member, product-of-members}
 
 module _ {A : Type 0} where
   pub member-some : (xs : List A) → 1 ≤ length xs → (x : A) × List·Memᴰ x xs
   member-some [] h = absurd (omega arith)
   member-some (x ∷ xs) h = (x, List·Memᴰ·head refl)
+
+  pub all-of-members : (ok : A → Bool) (xs : List A) → ((x : A) → List·Memᴰ x xs → T (ok x)) → T (all ok xs)
+  unfolding all
+  all-of-members ok [] h = tt
+  all-of-members ok (x ∷ xs) h = and-of (ok x) (all ok xs) (h x (List·Memᴰ·head refl)) (all-of-members ok xs (λ y m. h y (List·Memᴰ·tail m)))
 
   pub select-member : (ok : A → Bool) (xs : List A) {x : A} → List·Memᴰ x (select ok xs) → List·Memᴰ x xs × T (ok x)
   unfolding select
