@@ -5,3 +5,5 @@ pub mod ReadBack
 pub mod Exact
 pub mod Loops
 pub mod AtTheLimits
+pub mod Items
+pub mod Scopes

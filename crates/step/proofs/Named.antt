@@ -2,29 +2,18 @@
 -- Both follow the list of items; an item names a transition when their actions are the same numbers.
 use Prim.Native.Nat.{ℕ, suc}
 use native.Mathlib.Omega.{arith}
-use mathlib.Core.Path.{_≡_, refl, sym, ap, ap₂, subst}
+use mathlib.Core.Path.{_≡_, refl, sym, subst}
 use mathlib.Core.Bool.{Bool, true, false, cond}
 use mathlib.Core.List.{List, [], _∷_, List·Memᴰ, List·Memᴰ·head, List·Memᴰ·tail, List·Memᴰ·not-nil, List·Memᴰ·cases-cons}
 use mathlib.Core.Logic.{_⊎_, inl, inr}
-use lib.Dec.{T, eqb, eqb→eq, eqb-refl}
+use lib.Dec.{T}
 use Rattle.field.specs.Answer.{Answer, good, refused, _>>=_}
 use Rattle.field.proofs.Answers.{bind-good, good-not-refused, good-same}
-use Rattle.field.proofs.Tests.{and-parts, parts-and, T-true, true-T}
-use Rattle.plan.specs.Item.{Item, one, two, same-item}
+use Rattle.field.proofs.Tests.{true-T}
+use Rattle.plan.specs.Item.{Item, same-item}
+use Rattle.plan.proofs.Items.{same-item-is, item-same}
 use Rattle.net.specs.Net.{Transition}
 use Rattle.step.specs.Firing.{names, named-by, transitions-named}
-
-pub same-item-is : (t u : Item) → T (same-item t u) → t ≡ u
-unfolding same-item
-same-item-is (one i) (one j) h = ap one (eqb→eq i j h)
-same-item-is (one i) (two k l) h = absurd h
-same-item-is (two i j) (one k) h = absurd h
-same-item-is (two i j) (two k l) h = let p = and-parts (eqb i k) (eqb j l) h in ap₂ two (eqb→eq i k (p .0)) (eqb→eq j l (p .1))
-
-pub item-same : (t : Item) → T (same-item t t)
-unfolding same-item
-item-same (one i) = eqb-refl i
-item-same (two i j) = parts-and (eqb i i) (eqb j j) (eqb-refl i) (eqb-refl j)
 
 -- A transition of the net that has an item's actions.
 pub record Names (net : List Transition) (i : Item) (t : Transition) : Type 0 where
