@@ -15,7 +15,7 @@ use Rattle.boxes.specs.Places.{Place, sequence-place, choice-entry, choi
 use Rattle.boxes.specs.Transitions.{Labelled, labelled, kept, joined, transitions}
 use Rattle.boxes.specs.Arcs.{consumes, produces, by-item, transition-of}
 use Rattle.field.proofs.Tests.{or-left, or-right, eqb-of}
-use Rattle.boxes.proofs.Members.{select-member, joined-member}
+use Rattle.boxes.proofs.Members.{kept-member, joined-member}
 use Rattle.boxes.proofs.Products.{product-some}
 use Rattle.boxes.proofs.Lengths.{entries-length, entries-some, exits-length, exits-some}
 use Rattle.boxes.proofs.Anys.{any, any-left, any-right, any-weaker, any-product-left, any-product-right}
@@ -179,8 +179,7 @@ operands-in-range n E F p q t m =
 
 -- A scope keeps items or joins two of them.
 scope-in-range : (lo hi n : ℕ) (E : Expr) (a : ℕ) (ts : List Labelled) → AllInRange lo hi ts → AllInRange lo hi (kept a ts ++ joined n E a ts)
-unfolding kept
-scope-in-range lo hi n E a ts p v m = ⊎-elim (λ k. p v (select-member (λ t. not (labelled a t) && not (labelled (a + 128) t)) ts k .0)) new (List·Memᴰ·append-cases (kept a ts) m)
+scope-in-range lo hi n E a ts p v m = ⊎-elim (λ k. p v (kept-member a ts k)) new (List·Memᴰ·append-cases (kept a ts) m)
   where
     new : List·Memᴰ v (joined n E a ts) → InRange lo hi (v .item)
     new k =

@@ -11,7 +11,7 @@ use lib.Dec.{T}
 use Rattle.plan.specs.Expr.{Expr}
 use Rattle.plan.specs.Item.{first}
 use Rattle.boxes.specs.Places.{product}
-use Rattle.boxes.specs.Transitions.{Labelled, Pair, paired, silent, labelled, select, kept, joined, part-at-parallel}
+use Rattle.boxes.specs.Transitions.{Labelled, Pair, paired, silent, labelled, select, stays, kept, joined, part-at-parallel}
 use Rattle.boxes.proofs.Products.{product-member, product-of-members}
 
 module _ {A : Type 0} where
@@ -95,4 +95,4 @@ joined-of-member n E a ts j =
 -- What a scope keeps was there.
 pub kept-member : (a : ℕ) (ts : List Labelled) {t : Labelled} → List·Memᴰ t (kept a ts) → List·Memᴰ t ts
 unfolding kept
-kept-member a ts m = select-member _ ts m .0
+kept-member a ts m = select-member (stays a) ts m .0

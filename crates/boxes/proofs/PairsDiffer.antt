@@ -15,7 +15,7 @@ use Rattle.net.specs.Net.{Transition}
 use Rattle.net.specs.Check.{all, pairs-differ}
 use Rattle.net.proofs.Alls.{all-of}
 use Rattle.boxes.specs.Places.{Place, product, places}
-use Rattle.boxes.specs.Transitions.{Labelled, Pair, paired, silent, labelled, select, kept, joined, part-at-parallel, transitions}
+use Rattle.boxes.specs.Transitions.{Labelled, Pair, paired, silent, labelled, select, stays, kept, joined, part-at-parallel, transitions}
 use Rattle.boxes.specs.Arcs.{transition-of, net-of}
 use Rattle.field.proofs.Tests.{parts-and, and-parts}
 use Rattle.boxes.proofs.Members.{select-member, JoinedOf, joined-member}
@@ -173,31 +173,28 @@ module _ (n : ℕ) (E : Expr) (a : ℕ) (ts : List Labelled) (some : 1 ≤ a) (t
   told-scope : Told (kept a ts ++ joined n E a ts)
   unfolding kept
   told-scope = record {
-    unlike = differ-append item-of (kept a ts) (joined n E a ts) (differ-select item-of stays ts (told .unlike)) joined-unlike apart;
+    unlike = differ-append item-of (kept a ts) (joined n E a ts) (differ-select item-of (stays a) ts (told .unlike)) joined-unlike apart;
     not-alone = λ t u i j k l e f. alone t u i j (List·Memᴰ·append-cases (kept a ts) k) (List·Memᴰ·append-cases (kept a ts) l) e f;
     pair-silent = λ t i j k e.
-        ⊎-elim (λ k. told .pair-silent t i j (select-member stays ts k .0) e) (λ k. ap (λ (t : Labelled). t .label) (joined-member n E a ts k .made)) (List·Memᴰ·append-cases (kept a ts) k);
+        ⊎-elim (λ k. told .pair-silent t i j (select-member (stays a) ts k .0) e) (λ k. ap (λ (t : Labelled). t .label) (joined-member n E a ts k .made)) (List·Memᴰ·append-cases (kept a ts) k);
   }
     where
-      stays : Labelled → Bool
-      stays t = not (labelled a t) && not (labelled (a + 128) t)
-
-      apart : (t v : Labelled) → List·Memᴰ t (select stays ts) → List·Memᴰ v (joined n E a ts) → t .item ≡ v .item → ⊥
+      apart : (t v : Labelled) → List·Memᴰ t (select (stays a) ts) → List·Memᴰ v (joined n E a ts) → t .item ≡ v .item → ⊥
       apart t v k l e =
           let j = joined-member n E a ts l in
-          told .not-alone t (j .t) (first (j .t .item)) (first (j .u .item)) (select-member stays ts k .0) (j .t-in) (e ∙ joined-item v j) (joined-first v j)
+          told .not-alone t (j .t) (first (j .t .item)) (first (j .u .item)) (select-member (stays a) ts k .0) (j .t-in) (e ∙ joined-item v j) (joined-first v j)
 
       -- a kept transition is none that the scope takes away
-      gone : (v u : Labelled) (i k : ℕ) → JoinedOf n E a ts v → List·Memᴰ u (select stays ts) → v .item ≡ two i k → u .item ≡ one i → ⊥
+      gone : (v u : Labelled) (i k : ℕ) → JoinedOf n E a ts v → List·Memᴰ u (select (stays a) ts) → v .item ≡ two i k → u .item ≡ one i → ⊥
       gone v u i k j m e f =
-          let r = select-member stays ts m in
+          let r = select-member (stays a) ts m in
           let firsts = two-same (first (j .t .item)) i (first (j .u .item)) k (sym (joined-item v j) ∙ e) in
           let same : j .t ≡ u = differ-same item-of ts (told .unlike) (j .t) u (j .t-in) (r .0) (joined-first v j ∙ ap one (firsts .0) ∙ sym f) in
           T-not (labelled a u) (and-parts (not (labelled a u)) (not (labelled (a + 128) u)) (r .1) .0) (subst (λ t. T (labelled a t)) same (j .t-labelled))
 
-      alone : (t u : Labelled) (i j : ℕ) → List·Memᴰ t (select stays ts) ⊎ List·Memᴰ t (joined n E a ts) → List·Memᴰ u (select stays ts) ⊎ List·Memᴰ u (joined n E a ts)
+      alone : (t u : Labelled) (i j : ℕ) → List·Memᴰ t (select (stays a) ts) ⊎ List·Memᴰ t (joined n E a ts) → List·Memᴰ u (select (stays a) ts) ⊎ List·Memᴰ u (joined n E a ts)
           → t .item ≡ two i j → u .item ≡ one i → ⊥
-      alone t u i j (inl k) (inl l) e f = told .not-alone t u i j (select-member stays ts k .0) (select-member stays ts l .0) e f
+      alone t u i j (inl k) (inl l) e f = told .not-alone t u i j (select-member (stays a) ts k .0) (select-member (stays a) ts l .0) e f
       alone t u i j (inr k) (inl l) e f = gone t u i j (joined-member n E a ts k) l e f
       alone t u i j k (inr l) e f = let r = joined-member n E a ts l in never-both (u .item) i (first-of (r .t)) (first-of (r .u)) f (joined-item u r)
 

@@ -43,9 +43,12 @@ abbrev pub labelled : ℕ → Labelled → Bool
 labelled a t = eqb (t .label) a
 
 -- "takes away those labelled a or a+128, keeps the rest in order"
+abbrev pub stays : ℕ → Labelled → Bool
+stays a t = not (labelled a t) && not (labelled (a + 128) t)
+
 unfoldable pub kept : ℕ → List Labelled → List Labelled
 unfolding select
-kept a ts = select (λ t. not (labelled a t) && not (labelled (a + 128) t)) ts
+kept a ts = select (stays a) ts
 
 pub record Pair : Type 0 where
   pub t : Labelled
