@@ -3,7 +3,7 @@
 use Prim.Native.Nat.{ℕ, _+_, _-_, _≤_, _<_}
 use native.Mathlib.Nat.{eq-zero-or-pos}
 use native.Mathlib.Omega.{arith}
-use mathlib.Core.Path.{_≡_}
+use mathlib.Core.Path.{_≡_, _∙_, ap}
 use mathlib.Core.Logic.{⊎-elim}
 use Rattle.boxes.specs.Places.{Place, entry, exit, sequence-place, choice-entry, choice-exit, loop-place}
 
@@ -26,6 +26,9 @@ given A (loop-place x y e g) = given A x + given A y
 -- no action of so many from n on is in the step
 abbrev pub Quiet : ℕ → ℕ → (ℕ → ℕ) → Type 0
 Quiet n size A = (i : ℕ) → n ≤ i → i < n + size → A i ≡ 0
+
+pub quiet-one : (A : ℕ → ℕ) (n : ℕ) → A n ≡ 0 → Quiet n 1 A
+quiet-one A n z i h k = let p : i ≡ n = omega arith in ap A p ∙ z
 
 -- Of ranges that follow each other, two or, as in a loop, three: quiet in all of it is quiet in each.
 module _ {A : ℕ → ℕ} {n : ℕ} (a b : ℕ) where

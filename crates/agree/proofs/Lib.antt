@@ -8,3 +8,5 @@ pub mod PlaceNames
 pub mod Flows
 pub mod FlatSteps
 pub mod StepsMoveTokens
+pub mod FindsAnInput
+pub mod EnabledIsDerived
