@@ -7,3 +7,6 @@ pub mod Numbering
 pub mod PlaceNames
 pub mod Flows
 pub mod FlatSteps
+pub mod StepsMoveTokens
+pub mod FindsAnInput
+pub mod EnabledIsDerived
