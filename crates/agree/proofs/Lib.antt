@@ -7,3 +7,5 @@ pub mod Numbering
 pub mod PlaceNames
 pub mod Flows
 pub mod FlatSteps
+pub mod FlatLaws
+pub mod PartedActions
