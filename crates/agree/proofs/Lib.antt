@@ -9,3 +9,4 @@ pub mod Flows
 pub mod FlatSteps
 pub mod FlatLaws
 pub mod PartedActions
+pub mod LiveActions
