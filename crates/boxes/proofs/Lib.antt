@@ -1,3 +1,10 @@
 pub mod KnownNets
 pub mod Products
 pub mod Lengths
+pub mod Tests
+pub mod Members
+pub mod Anys
+pub mod ArcsRise
+pub mod EntriesAndExits
+pub mod EveryStepHasAnInput
+pub mod PairsDiffer
