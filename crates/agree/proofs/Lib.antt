@@ -10,3 +10,4 @@ pub mod FlatSteps
 pub mod FlatLaws
 pub mod PartedActions
 pub mod LiveActions
+pub mod ListedItems
