@@ -10,3 +10,7 @@ pub mod FlatSteps
 pub mod StepsMoveTokens
 pub mod FindsAnInput
 pub mod EnabledIsDerived
+pub mod FlatLaws
+pub mod PartedActions
+pub mod LiveActions
+pub mod ListedItems
