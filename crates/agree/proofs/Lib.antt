@@ -7,3 +7,4 @@ pub mod Numbering
 pub mod PlaceNames
 pub mod Flows
 pub mod FlatSteps
+pub mod SameTokensAreEqual
