@@ -14,3 +14,4 @@ pub mod FlatLaws
 pub mod PartedActions
 pub mod LiveActions
 pub mod ListedItems
+pub mod SameTokensAreEqual
