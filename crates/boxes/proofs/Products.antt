@@ -19,7 +19,7 @@ product-length f (x ∷ xs) ys =
 pub product-some : {A B C : Type 0} (f : A → B → C) (xs : List A) (ys : List B) → 1 ≤ length xs → 1 ≤ length ys → 1 ≤ length (product f xs ys)
 product-some f xs ys h k = omega (arith, product-length f xs ys, mul-le-mul h k)
 
-map-at : {A B : Type 0} (f : A → B) (xs : List A) (k : ℕ) (d : A) (d′ : B) → k < length xs → getD (map f xs) k d′ ≡ f (getD xs k d)
+pub map-at : {A B : Type 0} (f : A → B) (xs : List A) (k : ℕ) (d : A) (d′ : B) → k < length xs → getD (map f xs) k d′ ≡ f (getD xs k d)
 map-at f [] k d d′ h = absurd (omega arith)
 map-at f (x ∷ xs) zero d d′ h = refl
 map-at f (x ∷ xs) (suc k) d d′ h = map-at f xs k d d′ (omega arith)
