@@ -1,3 +1,4 @@
+pub mod Lists
 pub mod Codes
 pub mod Tokens
 pub mod EqualKeepsTokens
@@ -11,3 +12,5 @@ pub mod FlatLaws
 pub mod PartedActions
 pub mod LiveActions
 pub mod ListedItems
+pub mod StepsByItems
+pub mod ListedIsDerivable

@@ -9,6 +9,7 @@ use mathlib.Core.Logic.{_⊎_, inl, inr}
 use mathlib.Core.List.{List, [], _∷_, _++_, map}
 use lib.ListN.{length, getD, length-append, List·getD-append}
 use lib.Seq.{getD-append-add}
+use Rattle.agree.proofs.Lists.{AllOf, all-joined}
 use Rattle.agree.proofs.Codes.{Code, point, void, sum, prod, El}
 use Rattle.boxes.specs.Places.{product}
 
@@ -61,15 +62,6 @@ unfolding table
 product-table a b f g h =
     product-joined f (table a g) (table b h)
     ∙ ap joined (map-table a (λ x. map (f x) (table b h)) g ∙ table-same a (λ k. map-table b (f (g k)) h))
-
--- what holds of every element
-abbrev pub AllOf : {X : Type 0} → (X → Type 0) → List X → Type 0
-AllOf P [] = Unit {0}
-AllOf P (x ∷ xs) = P x × AllOf P xs
-
-pub all-joined : {X : Type 0} (P : X → Type 0) (s t : List X) → AllOf P s → AllOf P t → AllOf P (s ++ t)
-all-joined P [] t p q = q
-all-joined P (x ∷ s) t p q = (p .0, all-joined P s t (p .1) q)
 
 all-of-joined : {X : Type 0} (P : X → Type 0) (ls : List (List X)) → AllOf (AllOf P) ls → AllOf P (joined ls)
 unfolding joined
