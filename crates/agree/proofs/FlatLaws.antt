@@ -3,7 +3,7 @@
 use Prim.Native.Nat.{ℕ, _+_, _≤_, _<_}
 use native.Mathlib.Omega.{arith}
 use native.Mathlib.Decide.{decLt}
-use mathlib.Core.Path.{_≡_, sym, _∙_, subst}
+use mathlib.Core.Path.{_≡_, sym, _∙_}
 use Rattle.plan.specs.Expr.{Expr, actions}
 use Rattle.calculus.specs.Dynamic.{Dynamic}
 use Rattle.agree.proofs.Flows.{Quiet}
@@ -51,7 +51,7 @@ module _ (A : ℕ → ℕ) (n a i : ℕ) where
   after-quiet q lo some = below-or-not i (n + a) (λ l. absurd (omega (arith, q i lo l))) (λ l. l)
 
 -- what is quiet stays so where the numbers are the same
-quiet-same : (A B : ℕ → ℕ) (n size : ℕ) → Over n size (λ i. A i ≡ B i) → Quiet n size A → Quiet n size B
+pub quiet-same : (A B : ℕ → ℕ) (n size : ℕ) → Over n size (λ i. A i ≡ B i) → Quiet n size A → Quiet n size B
 quiet-same A B n size e q i lo hi = sym (e i lo hi) ∙ q i lo hi
 
 pub flat-same : {A B : ℕ → ℕ} {n : ℕ} {E : Expr} {D D′ : Dynamic E} → ((i : ℕ) → n ≤ i → i < n + actions E → A i ≡ B i) → Flat A n E D D′ → Flat B n E D D′

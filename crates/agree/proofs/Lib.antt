@@ -1,3 +1,4 @@
+pub mod Lists
 pub mod Codes
 pub mod Tokens
 pub mod EqualKeepsTokens
@@ -15,3 +16,5 @@ pub mod PartedActions
 pub mod LiveActions
 pub mod ListedItems
 pub mod SameTokensAreEqual
+pub mod StepsByItems
+pub mod ListedIsDerivable

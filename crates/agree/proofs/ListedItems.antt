@@ -2,10 +2,10 @@
 -- A transition's label is that of its one action, or 0 where it has two, so a scope, whose byte is at least 1, takes away and joins single actions only.
 use Prim.Native.Nat.{ℕ, _+_, _≤_, _<_}
 use native.Mathlib.Omega.{arith}
-use mathlib.Core.Path.{_≡_, refl, sym, _∙_, ap, ap₂, subst}
+use mathlib.Core.Path.{_≡_, refl, sym, _∙_, ap, subst}
 use mathlib.Core.Logic.{_⊎_, inl, inr, ⊎-elim, _↔_}
 use mathlib.Core.Bool.{Bool, true, false, cond, not, _&&_}
-use mathlib.Core.List.{List, [], _∷_, _++_, List·Memᴰ, List·Memᴰ·head, List·Memᴰ·append-cases, List·Memᴰ·eq-of-singleton, Memᴰ·append-left, Memᴰ·append-right}
+use mathlib.Core.List.{_++_, List·Memᴰ, List·Memᴰ·head, List·Memᴰ·append-cases, List·Memᴰ·eq-of-singleton, Memᴰ·append-left, Memᴰ·append-right}
 use lib.Dec.{T, T-not, not-T, ltb, ltb→lt, nltb→le, eqb, eqb→eq}
 use Rattle.plan.specs.Expr.{Expr, action, sequence, choice, parallel, loop, scope, actions, label}
 use Rattle.plan.specs.Item.{Item, one, two, first}

@@ -2,7 +2,7 @@
 -- At every other operator only one operand moves, and the others are quiet, so both actions are in that operand.
 use Prim.Native.Nat.{ℕ, _+_, _≤_, _<_}
 use native.Mathlib.Omega.{arith}
-use mathlib.Core.Path.{_≡_, sym, _∙_, ap}
+use mathlib.Core.Path.{_≡_, ap}
 use mathlib.Core.Bool.{Bool, true, false, not}
 use lib.Dec.{T, ltb, ltb→lt, nltb→le}
 use Rattle.plan.specs.Expr.{Expr, actions}
@@ -79,7 +79,8 @@ module _ (A : ℕ → ℕ) (n a : ℕ) (i j : ℕ) (some-i : 1 ≤ A i) (some-j 
       let r = after-quiet A n a j q lj some-j in
       parts-rest (n + a) i j in-first in-rest here p r (f p r)
 
-pub flat-parts : {A : ℕ → ℕ} {n : ℕ} {E : Expr} {D D′ : Dynamic E} → Flat A n E D D′ → (i j : ℕ) → n ≤ i → i < n + actions E → n ≤ j → j < n + actions E → 1 ≤ A i → 1 ≤ A j → (i ≡ j → ⊥) → T (part-at-parallel n E i j)
+pub flat-parts : {A : ℕ → ℕ} {n : ℕ} {E : Expr} {D D′ : Dynamic E} → Flat A n E D D′ → (i j : ℕ) → n ≤ i → i < n + actions E → n ≤ j → j < n + actions E
+    → 1 ≤ A i → 1 ≤ A j → (i ≡ j → ⊥) → T (part-at-parallel n E i j)
 unfolding part-at-parallel
 flat-parts (flat-idle q) i j li hi lj hj si sj d = absurd (omega (arith, q i li hi))
 flat-parts (flat-acts p) i j li hi lj hj si sj d = absurd (d (omega arith))
