@@ -3,3 +3,4 @@ pub mod Reading
 pub mod Exclusive
 pub mod Bytes
 pub mod Item
+pub mod Nodes
