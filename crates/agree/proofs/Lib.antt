@@ -18,3 +18,8 @@ pub mod ListedItems
 pub mod SameTokensAreEqual
 pub mod StepsByItems
 pub mod ListedIsDerivable
+pub mod Marks
+pub mod ItemFlows
+pub mod FiringIsDerived
+pub mod RecordsAgree
+pub mod Agreement

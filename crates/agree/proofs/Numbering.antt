@@ -6,11 +6,11 @@ use native.Mathlib.Nat.{mod-lt, div-add-mod', div-lt-iff-lt-mul, suc-mul, zero-m
 use native.Mathlib.Decide.{decLt}
 use mathlib.Core.Path.{_≡_, refl, sym, _∙_, ap, ap₂}
 use mathlib.Core.Logic.{_⊎_, inl, inr}
-use mathlib.Core.List.{List, [], _∷_, _++_, map}
+use mathlib.Core.List.{List, [], _∷_, _++_, map, List·Memᴰ, List·Memᴰ·head, Memᴰ·map, Memᴰ·append-left, Memᴰ·append-right}
 use lib.ListN.{length, getD, length-append, length-map, List·getD-append}
 use lib.Seq.{getD-append-add}
 use Rattle.boxes.specs.Places.{product}
-use Rattle.boxes.proofs.Products.{product-length, product-at, map-at}
+use Rattle.boxes.proofs.Products.{product-length, product-at, product-of-members, map-at}
 use Rattle.agree.proofs.Codes.{Code, point, void, sum, prod, El}
 
 unfoldable pub elements : (c : Code) → List (El c)
@@ -56,7 +56,7 @@ card void = 0
 card (sum a b) = card a + card b
 card (prod a b) = card a * card b
 
-elements-length : (c : Code) → length (elements c) ≡ card c
+pub elements-length : (c : Code) → length (elements c) ≡ card c
 unfolding elements card
 elements-length point = refl
 elements-length void = refl
@@ -140,3 +140,12 @@ numbered point j h = (tt, omega arith)
 numbered void j h = absurd (omega arith)
 numbered (sum a b) j h = in-sum a b j (λ i l. numbered a i l) (λ i l. numbered b i l) h (decLt j (card a))
 numbered (prod a b) j h = in-product a b j (λ i l. numbered a i l) (λ i l. numbered b i l) h
+
+-- Every place is in the list.
+pub element-member : (c : Code) (k : El c) → List·Memᴰ k (elements c)
+unfolding elements
+element-member point k = List·Memᴰ·head refl
+element-member void k = absurd k
+element-member (sum a b) (inl k) = Memᴰ·append-left (map inr (elements b)) (Memᴰ·map inl (element-member a k))
+element-member (sum a b) (inr k) = Memᴰ·append-right (map inl (elements a)) (Memᴰ·map inr (element-member b k))
+element-member (prod a b) k = product-of-members (λ x y. (x, y)) (element-member a (k .0)) (element-member b (k .1))

@@ -49,7 +49,7 @@ times-join (stays f j) k = omega (arith, times-join j k)
 times-join (joins p q j) k = omega (arith, times-join j k)
 
 -- an item has its first action, and none outside of its range
-item-has-first : (t : Item) → 1 ≤ item-times t (first t)
+pub item-has-first : (t : Item) → 1 ≤ item-times t (first t)
 item-has-first (one i) = omega (arith, only-same i)
 item-has-first (two i j) = omega (arith, only-same i)
 

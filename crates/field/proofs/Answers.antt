@@ -3,6 +3,7 @@
 use Prim.Native.Nat.{ℕ}
 use mathlib.Core.Path.{_≡_, refl}
 use mathlib.Core.Bool.{Bool, true, false}
+use mathlib.Core.Logic.{_⊎_, inl, inr}
 use native.Mathlib.Omega.{arith}
 use Rattle.field.specs.Answer.{Answer, good, refused, _>>=_, check}
 
@@ -21,3 +22,15 @@ module _ {A : Type 0} where
 
   pub good-same : (x y : A) → good x ≡ good y → x ≡ y
   good-same x y e = cc
+
+  -- A refusal of several parts is the first part's, or the first is good and it is the rest's.
+  pub bind-refused : {B : Type 0} (r : Answer B) (f : B → Answer A) (n c : ℕ) → (r >>= f) ≡ refused n c → (r ≡ refused n c) ⊎ ((b : B) × (r ≡ good b) × (f b ≡ refused n c))
+  bind-refused (good b) f n c e = inr (b, refl, e)
+  bind-refused {B} (refused m d) f n c e = inl (let p : m ≡ n = cc in let q : d ≡ c = cc in λ i. refused (p i) (q i))
+
+  pub refused-number : (n c m d : ℕ) → _≡_ {A = Answer A} (refused n c) (refused m d) → n ≡ m
+  refused-number n c m d e = cc
+
+pub check-refused : (b : Bool) (k d n c : ℕ) → check b k d ≡ refused n c → (b ≡ false) × (k ≡ n) × (d ≡ c)
+check-refused true k d n c e = good-not-refused (good tt) tt n c refl e
+check-refused false k d n c e = (refl, cc, cc)

@@ -1,7 +1,8 @@
 -- 01, "Refusal numbers", 35: "marking too short, or (firing, enabled list) a byte above 1". What lies past the net's part is not looked at.
-use Prim.Native.Nat.{ℕ}
+use Prim.Native.Nat.{ℕ, _+_}
 use mathlib.Core.List.{List, [], _∷_, _++_}
-use lib.ListN.{length, take, replicate}
+use mathlib.Core.Bool.{Bool}
+use lib.ListN.{length, take, drop, replicate}
 use lib.Dec.{leb}
 use Rattle.field.specs.Refusals.{no-marking}
 use Rattle.field.specs.Answer.{Answer, check, _>>=_, _>>_}
@@ -21,3 +22,8 @@ check-marking places m = do
 -- "the entry marking": one token on every entry place
 unfoldable pub entry-marking : Net → List ℕ
 entry-marking N = replicate (N .entries) 1 ++ (replicate (N .internals) 0 ++ replicate (N .exits) 0)
+
+-- "all exit places are marked"
+unfoldable pub exits-marked : Net → List ℕ → Bool
+unfolding all
+exits-marked N m = all (λ x. leb 1 x) (drop (N .entries + N .internals) m)

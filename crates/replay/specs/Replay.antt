@@ -1,14 +1,12 @@
 -- The replay call, whole: "Replay takes plan, record and marking buffer: 1 to 13, then 35 (short only), then 20, before anything is written
 -- and with 0 steps told. Then the buffer gets the entry marking and each step in turn; form is judged as a step is reached."
-use Prim.Native.Nat.{ℕ, suc, _+_}
+use Prim.Native.Nat.{ℕ, suc}
 use mathlib.Core.List.{List, [], _∷_, _++_}
-use mathlib.Core.Bool.{Bool, cond}
+use mathlib.Core.Bool.{cond}
 use lib.ListN.{drop}
-use lib.Dec.{leb}
 use Rattle.field.specs.Answer.{Answer, good, refused, _>>=_, _>>_}
 use Rattle.net.specs.Net.{Net, place-count}
-use Rattle.net.specs.Check.{all}
-use Rattle.net.specs.Marking.{check-room, entry-marking}
+use Rattle.net.specs.Marking.{check-room, entry-marking, exits-marked}
 use Rattle.boxes.specs.Arcs.{net-of}
 use Rattle.boxes.specs.Compile.{accept}
 use Rattle.step.specs.Form.{Recorded, ends, step, no-step, read-record}
@@ -24,10 +22,6 @@ pub data Verdict : Type 0 where
 pub record Run : Type 0 where
   pub verdict : Verdict
   pub marking : List ℕ
-
-unfoldable pub exits-marked : Net → List ℕ → Bool
-unfolding all
-exits-marked N m = all (λ x. leb 1 x) (drop (N .entries + N .internals) m)
 
 -- "A refusal leaves the marking after the accepted steps and tells their number."
 abbrev pub refuse : ℕ → ℕ → ℕ → List ℕ → Run

@@ -1,3 +1,4 @@
 pub mod Named
 pub mod Enough
 pub mod Fires
+pub mod Refusals
