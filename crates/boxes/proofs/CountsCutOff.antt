@@ -13,14 +13,14 @@ use borrow.Author.Tests.{leb-true, leb-false}
 use Rattle.field.specs.Limits.{place-limit, transition-limit, arc-limit}
 use Rattle.field.specs.Refusals.{too-many-places, too-many-transitions, too-many-arcs}
 use Rattle.field.specs.Answer.{Answer, good, refused, _>>_, check}
-use Rattle.plan.specs.Expr.{Expr, action, sequence, choice, parallel, loop, scope}
-use Rattle.net.specs.Net.{Transition}
+use Rattle.algebra.specs.Expr.{Expr, action, sequence, choice, parallel, loop, scope}
+use Rattle.algebra.specs.Net.{Transition}
 use Rattle.net.specs.Tables.{arcs-from, arcs-of}
-use Rattle.boxes.specs.Places.{places}
-use Rattle.boxes.specs.Transitions.{transitions}
-use Rattle.boxes.specs.Arcs.{transition-of, net-of}
+use Rattle.algebra.specs.Places.{places}
+use Rattle.algebra.specs.Transitions.{transitions}
+use Rattle.algebra.specs.Arcs.{transition-of, net-of}
 use Rattle.boxes.specs.Counts.{cut, entry-count, exit-count, internal-count, place-count, transition-count, arcs-up-to, arc-count, check-size}
-use Rattle.boxes.proofs.Lengths.{entries-of, exits-of, internals-of, places-length}
+use Rattle.algebra.proofs.Lengths.{entries-of, exits-of, internals-of, places-length}
 
 pub cut-within : (limit n : ℕ) → n ≤ limit → cut limit n ≡ n
 cut-within limit n h = omega arith
@@ -131,7 +131,7 @@ unfolding arc-count arcs-of
 arc-count-is E = arcs-up-to-is arc-limit (net-of E .transitions)
 
 -- the net has a place for each in the list
-pub net-places : (E : Expr) → Rattle.net.specs.Net.place-count (net-of E) ≡ length (places 0 E)
+pub net-places : (E : Expr) → Rattle.algebra.specs.Net.place-count (net-of E) ≡ length (places 0 E)
 unfolding net-of places
 net-places E = sym (simp length-append)
 

@@ -8,18 +8,19 @@ use mathlib.Core.Bool.{Bool, true, false, not, _&&_, _||_}
 use mathlib.Core.List.{List, [], _∷_, _++_, map, List·Memᴰ, List·Memᴰ·append-cases, List·Memᴰ·eq-of-singleton, Memᴰ·of-map}
 use lib.Dec.{T, eqb, leb, eqb→eq, leb→le, le→leb, not-T}
 use Rattle.field.proofs.Tests.{and-parts, parts-and, or-cases}
-use Rattle.plan.specs.Expr.{Expr, action, sequence, choice, parallel, loop, scope, actions}
-use Rattle.plan.specs.Item.{Item, one, two}
+use Rattle.algebra.specs.Expr.{Expr, action, sequence, choice, parallel, loop, scope, actions}
+use Rattle.algebra.specs.Item.{Item, one, two}
 use Rattle.plan.specs.Reading.{is-label, is-name}
 use Rattle.plan.specs.Bytes.{named}
-use Rattle.net.specs.Net.{Transition}
-use Rattle.net.specs.Check.{all, actions-fit, codes-fit}
-use Rattle.net.proofs.Alls.{all-of}
-use Rattle.boxes.specs.Places.{places}
-use Rattle.boxes.specs.Transitions.{Labelled, kept, joined, transitions}
-use Rattle.boxes.specs.Arcs.{transition-of, net-of}
-use Rattle.boxes.proofs.Members.{kept-member, joined-member}
-use Rattle.boxes.proofs.EveryStepHasAnInput.{InRange, items-in-range}
+use Rattle.algebra.specs.Net.{Transition}
+use Rattle.field.specs.Lists.{all}
+use Rattle.net.specs.Check.{actions-fit, codes-fit}
+use Rattle.field.proofs.Alls.{all-of}
+use Rattle.algebra.specs.Places.{places}
+use Rattle.algebra.specs.Transitions.{Labelled, kept, joined, transitions}
+use Rattle.algebra.specs.Arcs.{transition-of, net-of}
+use Rattle.algebra.proofs.Members.{kept-member, joined-member}
+use Rattle.algebra.proofs.EveryStepHasAnInput.{InRange, items-in-range}
 
 -- A label of the box is a label of the plan.
 Told : Labelled → Type 0

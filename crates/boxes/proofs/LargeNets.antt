@@ -9,12 +9,12 @@ use lib.Dec.{lit<, lit≤}
 use Rattle.field.specs.Limits.{plan-limit}
 use Rattle.field.specs.Refusals.{too-many-places}
 use Rattle.field.specs.Answer.{refused}
-use Rattle.plan.specs.Expr.{Expr, action, choice, parallel}
+use Rattle.algebra.specs.Expr.{Expr, action, choice, parallel}
 use Rattle.plan.specs.Bytes.{encode}
 use Rattle.plan.proofs.AtTheLimits.{tree}
-use Rattle.boxes.specs.Places.{places}
+use Rattle.algebra.specs.Places.{places}
 use Rattle.boxes.specs.Compile.{accept}
-use Rattle.boxes.proofs.Lengths.{entries-of, places-length}
+use Rattle.algebra.proofs.Lengths.{entries-of, places-length}
 
 -- a choice among 64 times four actions side by side
 abbrev pub wide : Expr

@@ -1,13 +1,7 @@
 pub mod KnownNets
-pub mod Products
-pub mod Lengths
 pub mod CountsCutOff
 pub mod LargeNets
-pub mod Members
-pub mod Anys
 pub mod ArcsRise
-pub mod EntriesAndExits
-pub mod EveryStepHasAnInput
 pub mod PairsDiffer
 pub mod LabelsFit
 pub mod TablesAreANet

@@ -10,26 +10,27 @@ use lib.Dec.{T, leb, le→leb}
 use Rattle.field.specs.Answer.{Answer, good, refused, _>>=_}
 use Rattle.field.proofs.Answers.{bind-good, good-same}
 use Rattle.field.proofs.Tests.{parts-and}
-use Rattle.plan.specs.Expr.{Expr, actions}
+use Rattle.algebra.specs.Expr.{Expr, actions}
 use Rattle.plan.specs.Reading.{read-plan}
-use Rattle.plan.specs.Exclusive.{check-loops}
+use Rattle.plan.specs.Loops.{check-loops}
 use Rattle.plan.proofs.Exact.{read-within}
 use Rattle.plan.proofs.Within.{Within, limits-within}
 use Rattle.plan.proofs.Scopes.{named-scopes}
-use Rattle.net.specs.Net.{Transition, Net, place-count}
+use Rattle.algebra.specs.Net.{Transition, Net, place-count}
 use Rattle.net.specs.Tables.{Tables, arcs-of, tables-of, transitions-in}
-use Rattle.net.specs.Check.{all, rising, lists-rise, check-net}
-use Rattle.net.proofs.Alls.{all-of}
+use Rattle.field.specs.Lists.{all}
+use Rattle.net.specs.Check.{rising, lists-rise, check-net}
+use Rattle.field.proofs.Alls.{all-of}
 use Rattle.net.proofs.ReadTables.{lent-tables, lent-read-back, tables-read-back}
 use Rattle.net.proofs.NetPasses.{Orderly, orderly-passes, lent-passes}
-use Rattle.boxes.specs.Places.{entries, exits, places}
-use Rattle.boxes.specs.Transitions.{Labelled, transitions}
-use Rattle.boxes.specs.Arcs.{transition-of, net-of}
+use Rattle.algebra.specs.Places.{entries, exits, places}
+use Rattle.algebra.specs.Transitions.{Labelled, transitions}
+use Rattle.algebra.specs.Arcs.{transition-of, net-of}
 use Rattle.boxes.specs.Counts.{check-size}
 use Rattle.boxes.specs.Compile.{accept}
 use Rattle.boxes.proofs.CountsCutOff.{size-accepted, net-places}
 use Rattle.boxes.proofs.ArcsRise.{inputs-rise, outputs-rise}
-use Rattle.boxes.proofs.EveryStepHasAnInput.{every-box-has-an-entry, every-box-has-an-exit, every-step-has-an-input, every-step-has-an-output}
+use Rattle.algebra.proofs.EveryStepHasAnInput.{every-box-has-an-entry, every-box-has-an-exit, every-step-has-an-input, every-step-has-an-output}
 use Rattle.boxes.proofs.PairsDiffer.{pairs-differ-in}
 use Rattle.boxes.proofs.LabelsFit.{codes-fit-in}
 

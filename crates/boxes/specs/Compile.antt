@@ -6,12 +6,12 @@ use lib.ListN.{length, drop}
 use lib.Dec.{leb}
 use Rattle.field.specs.Refusals.{table-too-short}
 use Rattle.field.specs.Answer.{Answer, good, refused, _>>=_, _>>_, check}
-use Rattle.plan.specs.Expr.{Expr}
+use Rattle.algebra.specs.Expr.{Expr}
 use Rattle.plan.specs.Reading.{read-plan}
-use Rattle.plan.specs.Exclusive.{check-loops}
-use Rattle.net.specs.Net.{Net}
+use Rattle.plan.specs.Loops.{check-loops}
+use Rattle.algebra.specs.Net.{Net}
 use Rattle.net.specs.Tables.{Tables, tables-of}
-use Rattle.boxes.specs.Arcs.{net-of}
+use Rattle.algebra.specs.Arcs.{net-of}
 use Rattle.boxes.specs.Counts.{check-size}
 
 -- "Plan: 1; then fields in byte order ..; 10 after all reading; then 11, 12, 13": an accepted plan's expression, or the first fault.

@@ -7,10 +7,10 @@ use lib.Dec.{leb}
 use Rattle.field.specs.Limits.{place-limit, transition-limit, arc-limit}
 use Rattle.field.specs.Refusals.{too-many-places, too-many-transitions, too-many-arcs}
 use Rattle.field.specs.Answer.{Answer, good, refused, _>>=_, _>>_, check}
-use Rattle.plan.specs.Expr.{Expr, action, sequence, choice, parallel, loop, scope}
-use Rattle.net.specs.Net.{Transition, Net}
-use Rattle.boxes.specs.Transitions.{transitions}
-use Rattle.boxes.specs.Arcs.{net-of}
+use Rattle.algebra.specs.Expr.{Expr, action, sequence, choice, parallel, loop, scope}
+use Rattle.algebra.specs.Net.{Transition, Net}
+use Rattle.algebra.specs.Transitions.{transitions}
+use Rattle.algebra.specs.Arcs.{net-of}
 
 -- at most one above the limit
 abbrev pub cut : ℕ → ℕ → ℕ

@@ -2,3 +2,4 @@ pub mod Limits
 pub mod Refusals
 pub mod Answer
 pub mod Field
+pub mod Lists

@@ -1,4 +1,3 @@
-pub mod Alls
 pub mod ReadTables
 pub mod NetPasses
 pub mod Marking

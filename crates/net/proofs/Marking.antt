@@ -8,11 +8,12 @@ use lib.ListN.{length, take, replicate, length-append, length-replicate}
 use lib.Seq.{take-at}
 use lib.Dec.{T, leb, le→leb}
 use Rattle.field.specs.Answer.{good}
-use Rattle.net.specs.Net.{Net, place-count}
-use Rattle.net.specs.Check.{all}
-use Rattle.net.specs.Marking.{check-marking, entry-marking}
+use Rattle.algebra.specs.Net.{Net, place-count}
+use Rattle.field.specs.Lists.{all}
+use Rattle.net.specs.Marking.{check-marking}
+use Rattle.algebra.specs.Marking.{entry-marking}
 use Rattle.field.proofs.Tests.{T-true}
-use Rattle.net.proofs.Alls.{all-join, all-replicate}
+use Rattle.field.proofs.Alls.{all-join, all-replicate}
 use Rattle.net.proofs.ReadTables.{lent-reaches}
 
 pub entry-marking-length : (N : Net) → length (entry-marking N) ≡ place-count N

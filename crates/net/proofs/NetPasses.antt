@@ -12,9 +12,10 @@ use lib.Dec.{T, leb, eqb, le→leb, eqb-refl, lit≤}
 use Rattle.field.specs.Limits.{place-limit, transition-limit, arc-limit}
 use Rattle.field.specs.Refusals.{no-net}
 use Rattle.field.specs.Answer.{good, check}
-use Rattle.net.specs.Net.{Transition, Net, place-count}
+use Rattle.algebra.specs.Net.{Transition, Net, place-count}
 use Rattle.net.specs.Tables.{Tables, kinds-of, rows-from, rows-of, arcs-from, arcs-of, tables-of, number, transitions-in}
-use Rattle.net.specs.Check.{all, counts-fit, tables-reach, kinds-after, kinds-ordered, lists-rise, starts-meet, codes-fit, pairs-differ, is-net, check-net}
+use Rattle.field.specs.Lists.{all}
+use Rattle.net.specs.Check.{counts-fit, tables-reach, kinds-after, kinds-ordered, lists-rise, starts-meet, codes-fit, pairs-differ, is-net, check-net}
 use Rattle.field.proofs.Tests.{T-true, parts-and}
 use Rattle.net.proofs.ReadTables.{RowsFrom, next-start, number-in, rows-next, lent-tables, lent-reaches, lent-read-back, lent-nothing}
 

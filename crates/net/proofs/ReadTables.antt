@@ -9,10 +9,11 @@ use lib.ListN.{length, getD, take, drop, length-append}
 use lib.Seq.{getD-drop, drop-drop, take-append-seam, drop-append-seam}
 use lib.Dec.{T, eqb, leb, eqb→eq, leb→le}
 use Rattle.field.proofs.Tests.{and-parts}
-use Rattle.plan.specs.Item.{Item, one, two, first}
-use Rattle.net.specs.Net.{Transition, Net, place-count}
+use Rattle.algebra.specs.Item.{Item, one, two, first}
+use Rattle.algebra.specs.Net.{Transition, Net, place-count}
 use Rattle.net.specs.Tables.{Tables, kinds-of, rows-from, rows-of, arcs-from, arcs-of, tables-of, number, none, second, item-of, transition-at, transitions-from, transitions-in}
-use Rattle.net.specs.Check.{all, actions-fit, codes-fit}
+use Rattle.field.specs.Lists.{all}
+use Rattle.net.specs.Check.{actions-fit, codes-fit}
 
 -- From row t on the rows are those of these transitions, whose arcs begin at a start.
 abbrev pub RowsFrom : Tables → ℕ → ℕ → List Transition → List ℕ → Type 0

@@ -7,13 +7,10 @@ use lib.Dec.{eqb, leb, ltb}
 use Rattle.field.specs.Limits.{place-limit, transition-limit, arc-limit}
 use Rattle.field.specs.Refusals.{no-net}
 use Rattle.field.specs.Answer.{Answer, check}
-use Rattle.plan.specs.Item.{Item, one, two, same-item}
-use Rattle.net.specs.Net.{Transition}
+use Rattle.algebra.specs.Item.{Item, one, two, same-item}
+use Rattle.algebra.specs.Net.{Transition}
+use Rattle.field.specs.Lists.{all}
 use Rattle.net.specs.Tables.{Tables, number, transitions-in}
-
-unfoldable pub all : {A : Type 0} → (A → Bool) → List A → Bool
-all ok [] = true
-all ok (x ∷ xs) = ok x && all ok xs
 
 -- "a count over its limit"
 unfoldable pub counts-fit : Tables → Bool

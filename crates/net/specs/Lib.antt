@@ -1,4 +1,3 @@
-pub mod Net
 pub mod Tables
 pub mod Check
 pub mod Marking

@@ -6,8 +6,8 @@ use lib.ListN.{length, take, drop, replicate}
 use lib.Dec.{leb}
 use Rattle.field.specs.Refusals.{no-marking}
 use Rattle.field.specs.Answer.{Answer, check, _>>=_, _>>_}
-use Rattle.net.specs.Net.{Net}
-use Rattle.net.specs.Check.{all}
+use Rattle.algebra.specs.Net.{Net}
+use Rattle.field.specs.Lists.{all}
 
 -- "35 (short only)", as replay asks it.
 unfoldable pub check-room : ℕ → List ℕ → Answer (Unit {0})
@@ -18,12 +18,3 @@ unfolding check-room all
 check-marking places m = do
   check-room places m
   check (all (λ x. leb x 1) (take places m)) no-marking 0
-
--- "the entry marking": one token on every entry place
-unfoldable pub entry-marking : Net → List ℕ
-entry-marking N = replicate (N .entries) 1 ++ (replicate (N .internals) 0 ++ replicate (N .exits) 0)
-
--- "all exit places are marked"
-unfoldable pub exits-marked : Net → List ℕ → Bool
-unfolding all
-exits-marked N m = all (λ x. leb 1 x) (drop (N .entries + N .internals) m)

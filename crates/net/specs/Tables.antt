@@ -4,8 +4,8 @@ use mathlib.Core.List.{List, [], _∷_, _++_}
 use mathlib.Core.Bool.{cond}
 use lib.ListN.{length, getD, take, drop, replicate}
 use lib.Dec.{eqb}
-use Rattle.plan.specs.Item.{Item, one, two, first}
-use Rattle.net.specs.Net.{Transition, Net, place-count}
+use Rattle.algebra.specs.Item.{Item, one, two, first}
+use Rattle.algebra.specs.Net.{Transition, Net, place-count}
 
 -- "a byte per place (1 entry, 2 internal, 3 exit)"
 unfoldable pub kinds-of : Net → List ℕ

@@ -11,7 +11,7 @@ use lib.Dec.{T, leb, leb→le}
 use Rattle.field.specs.Field.{field}
 use Rattle.field.proofs.Fields.{field-length}
 use Rattle.field.proofs.Tests.{and-parts}
-use Rattle.plan.specs.Expr.{Expr, action}
+use Rattle.algebra.specs.Expr.{Expr, action}
 use Rattle.plan.specs.Reading.{is-label, Operands, Tag, action-tag, sequence-tag, choice-tag, parallel-tag, loop-tag, scope-tag}
 use Rattle.plan.specs.Bytes.{encode, named, within-limits}
 use Rattle.plan.proofs.Operators.{Operator, sequence-of, choice-of, parallel-of, loop-of, scope-of, tag-number, tag, number, arity, own, own-named, built, all-encode, all-named, built-encode, built-named, Each, by-operators}

@@ -7,7 +7,7 @@ use lib.ListN.{length}
 use Rattle.field.specs.Limits.{plan-limit, depth-limit, action-limit}
 use Rattle.field.specs.Refusals.{plan-too-long, too-deep, too-many-actions}
 use Rattle.field.specs.Answer.{good, refused}
-use Rattle.plan.specs.Expr.{Expr, action, sequence, scope, actions}
+use Rattle.algebra.specs.Expr.{Expr, action, sequence, scope, actions}
 use Rattle.plan.specs.Reading.{read-plan}
 use Rattle.plan.specs.Bytes.{encode, depth}
 

@@ -16,9 +16,9 @@ use Rattle.field.specs.Field.{tag-of, length-of, body-of, field}
 use Rattle.field.proofs.Answers.{good-not-refused, check-good, bind-good, good-same}
 use Rattle.field.proofs.Tests.{and-parts, parts-and, true-T}
 use Rattle.field.proofs.Fields.{field-front, body-of-length}
-use Rattle.plan.specs.Expr.{Expr, action, actions}
+use Rattle.algebra.specs.Expr.{Expr, action, actions}
 use Rattle.plan.specs.Reading.{is-label, is-name, Tag, action-tag, sequence-tag, choice-tag, parallel-tag, loop-tag, scope-tag, tag-at, Part, Parts, Reader, read-operands, read-body, read-field, read-plan}
-use Rattle.plan.specs.Exclusive.{bytes}
+use Rattle.plan.specs.Loops.{bytes}
 use Rattle.plan.specs.Bytes.{encode, depth, named, within-limits}
 use Rattle.plan.proofs.Operators.{Operator, sequence-of, choice-of, parallel-of, loop-of, scope-of, tag-number, tag, number, arity, own, own-named, built, all-encode, all-bytes, all-actions, all-depth, all-named, built-encode, built-bytes, built-actions, built-depth, built-named}
 use Rattle.plan.proofs.Within.{Within, within-the-limits}

@@ -5,5 +5,4 @@ pub mod ReadBack
 pub mod Exact
 pub mod Loops
 pub mod AtTheLimits
-pub mod Items
 pub mod Scopes

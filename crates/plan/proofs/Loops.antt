@@ -11,20 +11,9 @@ use lib.Dec.{T}
 use Rattle.field.specs.Answer.{good, refused}
 use Rattle.field.specs.Refusals.{body-not-exclusive}
 use Rattle.field.proofs.Answers.{good-not-refused}
-use Rattle.plan.specs.Expr.{Expr, action, sequence, choice, parallel, loop, scope}
-use Rattle.plan.specs.Exclusive.{exclusive, bytes, faulty-loops, no-fault, check-loops}
-
-abbrev pub Exclusive : Expr → Type 0
-Exclusive E = T (exclusive E)
-
--- Every loop in an expression has an exclusive body.
-abbrev pub LoopsExclusive : Expr → Type 0
-LoopsExclusive (action l) = Unit {0}
-LoopsExclusive (sequence E F) = LoopsExclusive E × LoopsExclusive F
-LoopsExclusive (choice E F) = LoopsExclusive E × LoopsExclusive F
-LoopsExclusive (parallel E F) = LoopsExclusive E × LoopsExclusive F
-LoopsExclusive (loop E F G) = LoopsExclusive E × LoopsExclusive F × LoopsExclusive G × T (exclusive F)
-LoopsExclusive (scope a E) = LoopsExclusive E
+use Rattle.algebra.specs.Expr.{Expr, action, sequence, choice, parallel, loop, scope}
+use Rattle.algebra.specs.Exclusive.{exclusive, LoopsExclusive}
+use Rattle.plan.specs.Loops.{bytes, faulty-loops, no-fault, check-loops}
 
 none-here : (b : Bool) (at : ℕ) → (cond b [] (at ∷ []) ≡ []) ↔ T b
 none-here true at = (λ e. tt, λ t. refl)

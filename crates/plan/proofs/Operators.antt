@@ -8,9 +8,9 @@ use native.Mathlib.Omega.{arith}
 use lib.ListN.{length}
 use Rattle.field.specs.Answer.{good}
 use Rattle.field.specs.Field.{field}
-use Rattle.plan.specs.Expr.{Expr, action, sequence, choice, parallel, loop, scope, actions}
+use Rattle.algebra.specs.Expr.{Expr, action, sequence, choice, parallel, loop, scope, actions}
 use Rattle.plan.specs.Reading.{is-name, Tag, action-tag, sequence-tag, choice-tag, parallel-tag, loop-tag, scope-tag, tag-at, Operands}
-use Rattle.plan.specs.Exclusive.{bytes}
+use Rattle.plan.specs.Loops.{bytes}
 use Rattle.plan.specs.Bytes.{encode, depth, named}
 
 abbrev pub tag-number : Tag → ℕ

@@ -15,9 +15,9 @@ use Rattle.field.specs.Answer.{good, _>>=_}
 use Rattle.field.specs.Field.{tag-of, length-of, body-of, field}
 use Rattle.field.proofs.Tests.{and-parts, parts-and, T-true}
 use Rattle.field.proofs.Fields.{field-length, field-tag-of, field-length-of, field-body-of}
-use Rattle.plan.specs.Expr.{Expr, action, actions}
+use Rattle.algebra.specs.Expr.{Expr, action, actions}
 use Rattle.plan.specs.Reading.{is-label, Tag, action-tag, tag-at, Part, Operands, Parts, Reader, read-operands, read-body, read-field, read-plan, is-name}
-use Rattle.plan.specs.Exclusive.{bytes}
+use Rattle.plan.specs.Loops.{bytes}
 use Rattle.plan.specs.Bytes.{encode, depth, named, within-limits}
 use Rattle.plan.proofs.Operators.{Operator, sequence-of, choice-of, parallel-of, loop-of, scope-of, tag, number, arity, own, own-named, built, all-encode, all-bytes, all-actions, all-depth, all-named, number-tag, built-encode, built-bytes, built-actions, built-depth, built-named, Each, by-operators}
 use Rattle.plan.proofs.Within.{limits-within}

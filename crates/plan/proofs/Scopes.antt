@@ -4,17 +4,10 @@ use Prim.Native.Nat.{ℕ, _≤_}
 use mathlib.Core.Bool.{_&&_}
 use lib.Dec.{T, leb, leb→le}
 use Rattle.field.proofs.Tests.{and-parts}
-use Rattle.plan.specs.Expr.{Expr, action, sequence, choice, parallel, loop, scope}
+use Rattle.algebra.specs.Expr.{Expr, action, sequence, choice, parallel, loop, scope}
+use Rattle.algebra.specs.Scopes.{ScopesNamed}
 use Rattle.plan.specs.Bytes.{named}
 use Rattle.plan.specs.Reading.{is-name}
-
-abbrev pub ScopesNamed : Expr → Type 0
-ScopesNamed (action l) = Unit {0}
-ScopesNamed (sequence E F) = ScopesNamed E × ScopesNamed F
-ScopesNamed (choice E F) = ScopesNamed E × ScopesNamed F
-ScopesNamed (parallel E F) = ScopesNamed E × ScopesNamed F
-ScopesNamed (loop E F G) = ScopesNamed E × ScopesNamed F × ScopesNamed G
-ScopesNamed (scope a E) = (1 ≤ a) × ScopesNamed E
 
 pub named-scopes : (E : Expr) → T (named E) → ScopesNamed E
 unfolding named

@@ -6,7 +6,7 @@ use lib.ListN.{length}
 use lib.Dec.{T, leb, leb→le, le→leb}
 use Rattle.field.specs.Limits.{plan-limit, depth-limit, action-limit}
 use Rattle.field.proofs.Tests.{and-parts, parts-and}
-use Rattle.plan.specs.Expr.{Expr, actions}
+use Rattle.algebra.specs.Expr.{Expr, actions}
 use Rattle.plan.specs.Bytes.{encode, depth, named, within-limits}
 
 pub record Within (E : Expr) : Type 0 where

@@ -6,7 +6,7 @@ use lib.ListN.{length}
 use lib.Dec.{leb}
 use Rattle.field.specs.Limits.{plan-limit, depth-limit, action-limit}
 use Rattle.field.specs.Field.{field}
-use Rattle.plan.specs.Expr.{Expr, action, sequence, choice, parallel, loop, scope, actions}
+use Rattle.algebra.specs.Expr.{Expr, action, sequence, choice, parallel, loop, scope, actions}
 use Rattle.plan.specs.Reading.{is-label, is-name}
 
 unfoldable pub encode : Expr → List ℕ

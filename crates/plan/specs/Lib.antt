@@ -1,6 +1,4 @@
-pub mod Expr
 pub mod Reading
-pub mod Exclusive
+pub mod Loops
 pub mod Bytes
-pub mod Item
 pub mod Nodes

@@ -1,8 +1,8 @@
 -- The node table of an expression: a row for each field, in the order of the bytes. It is the library's own work room, not lent.
 use Prim.Native.Nat.{ℕ, _+_}
 use mathlib.Core.List.{List, [], _∷_, _++_}
-use Rattle.plan.specs.Expr.{Expr, action, sequence, choice, parallel, loop, scope, actions}
-use Rattle.plan.specs.Exclusive.{bytes}
+use Rattle.algebra.specs.Expr.{Expr, action, sequence, choice, parallel, loop, scope, actions}
+use Rattle.plan.specs.Loops.{bytes}
 
 -- A row: the tag; the label or scope byte, else 0; how many members the field has; the number of the node after the subtree;
 -- the number of its first action; the offset of the field.

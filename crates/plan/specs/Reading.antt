@@ -8,7 +8,7 @@ use Rattle.field.specs.Limits.{plan-limit, depth-limit, action-limit}
 use Rattle.field.specs.Refusals.{plan-too-long, operand-due, too-deep, field-cut, unknown-tag, wrong-body, wrong-label, too-many-actions, bytes-after}
 use Rattle.field.specs.Answer.{Answer, good, refused, _>>=_, _>>_, check}
 use Rattle.field.specs.Field.{tag-of, length-of, body-of}
-use Rattle.plan.specs.Expr.{Expr, action, sequence, choice, parallel, loop, scope}
+use Rattle.algebra.specs.Expr.{Expr, action, sequence, choice, parallel, loop, scope}
 
 -- "Label 0 is silent; a in 1..127 is an action, a+128 its conjugate; 128 is no label."
 abbrev pub is-label : ℕ → Bool

@@ -5,12 +5,13 @@ use mathlib.Core.List.{List, [], _∷_, _++_}
 use mathlib.Core.Bool.{cond}
 use lib.ListN.{drop}
 use Rattle.field.specs.Answer.{Answer, good, refused, _>>=_, _>>_}
-use Rattle.net.specs.Net.{Net, place-count}
-use Rattle.net.specs.Marking.{check-room, entry-marking, exits-marked}
-use Rattle.boxes.specs.Arcs.{net-of}
+use Rattle.algebra.specs.Net.{Net, place-count}
+use Rattle.net.specs.Marking.{check-room}
+use Rattle.algebra.specs.Marking.{entry-marking, exits-marked}
+use Rattle.algebra.specs.Arcs.{net-of}
 use Rattle.boxes.specs.Compile.{accept}
 use Rattle.step.specs.Form.{Recorded, ends, step, no-step, read-record}
-use Rattle.step.specs.Firing.{fire-items}
+use Rattle.algebra.specs.Firing.{fire-items}
 
 -- "An accepted record is finished if all exit places are marked, else unfinished; its number of steps is told too."
 -- A refusal tells its number, what it carries, and the number of accepted steps.

@@ -2,22 +2,15 @@
 -- answers how many, and says stuck when there are none."
 use Prim.Native.Nat.{ℕ, suc}
 use mathlib.Core.List.{List, [], _∷_, _++_}
-use mathlib.Core.Bool.{cond}
 use lib.ListN.{length, take, drop}
 use lib.Dec.{leb}
 use Rattle.field.specs.Refusals.{table-too-short}
 use Rattle.field.specs.Answer.{Answer, good, refused, _>>=_, _>>_, check}
-use Rattle.net.specs.Net.{Transition}
+use Rattle.algebra.specs.Net.{Transition}
 use Rattle.net.specs.Tables.{Tables, transitions-in}
 use Rattle.net.specs.Check.{check-net}
 use Rattle.net.specs.Marking.{check-marking}
-use Rattle.step.specs.Firing.{marked}
-
--- The numbers, from k on, of the transitions whose input places are all marked.
-unfoldable pub enabled-from : ℕ → List ℕ → List Transition → List ℕ
-unfolding marked
-enabled-from k m [] = []
-enabled-from k m (t ∷ ts) = cond (marked m t) (k ∷ enabled-from (suc k) m ts) (enabled-from (suc k) m ts)
+use Rattle.algebra.specs.Firing.{enabled-from}
 
 unfoldable pub list-enabled : Tables → List ℕ → List ℕ → Answer (List ℕ)
 unfolding check-net check-marking enabled-from transitions-in

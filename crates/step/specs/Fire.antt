@@ -7,7 +7,7 @@ use Rattle.net.specs.Tables.{Tables, transitions-in}
 use Rattle.net.specs.Check.{check-net}
 use Rattle.net.specs.Marking.{check-marking}
 use Rattle.step.specs.Form.{read-lent-step}
-use Rattle.step.specs.Firing.{fire-items}
+use Rattle.algebra.specs.Firing.{fire-items}
 
 unfoldable pub fire-step : Tables → List ℕ → List ℕ → Answer (List ℕ)
 unfolding check-net check-marking read-lent-step fire-items transitions-in

@@ -8,7 +8,7 @@ use Rattle.field.specs.Limits.{record-limit}
 use Rattle.field.specs.Refusals.{record-too-long, record-field-cut, wrong-tag, wrong-length, not-rising}
 use Rattle.field.specs.Answer.{Answer, good, refused, _>>=_, _>>_, check}
 use Rattle.field.specs.Field.{tag-of, length-of, body-of}
-use Rattle.plan.specs.Item.{Item, one, two, first}
+use Rattle.algebra.specs.Item.{Item, one, two, first}
 
 -- "21 is under 3 bytes left or a length beyond what encloses the field, and both stand before 22."
 unfoldable pub check-header : ℕ → List ℕ → Answer (Unit {0})

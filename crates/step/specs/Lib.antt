@@ -1,4 +1,3 @@
 pub mod Form
-pub mod Firing
 pub mod Fire
 pub mod Enabled

@@ -1,0 +1,14 @@
+pub mod Expr
+pub mod Item
+pub mod Exclusive
+pub mod Scopes
+pub mod Dynamic
+pub mod Steps
+pub mod Derived
+pub mod Places
+pub mod Transitions
+pub mod Net
+pub mod Arcs
+pub mod Marking
+pub mod Firing
+pub mod InOrder

@@ -1,3 +1,0 @@
-pub mod Dynamic
-pub mod Steps
-pub mod Derived

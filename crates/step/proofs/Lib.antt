@@ -1,4 +1,0 @@
-pub mod Named
-pub mod Enough
-pub mod Fires
-pub mod Refusals
