@@ -9,7 +9,7 @@ use mathlib.Core.List.{_++_, List·Memᴰ, List·Memᴰ·head, List·Memᴰ·app
 use lib.Dec.{T, T-not, not-T, ltb, ltb→lt, nltb→le, eqb, eqb→eq}
 use Rattle.algebra.specs.Expr.{Expr, action, sequence, choice, parallel, loop, scope, actions, label}
 use Rattle.algebra.specs.Item.{Item, one, two, first}
-use Rattle.algebra.specs.Transitions.{Labelled, where-both, part-at-parallel, labelled, kept, joined, transitions}
+use Rattle.algebra.specs.Transitions.{Labelled, where-both, part-at-parallel, labelled, kept, joined, transitions, stays}
 use Rattle.field.proofs.Tests.{parts-and, and-parts, eqb-of}
 use Rattle.algebra.proofs.Members.{select-member, select-of-member, JoinedOf, joined-member, joined-of-member}
 use Rattle.algebra.proofs.EveryStepHasAnInput.{InRange, items-in-range}
@@ -123,9 +123,6 @@ label-scope n a E (one i) = refl
 label-scope n a E (two i j) = refl
 
 -- What a scope lists is a transition that it keeps, or a pair that it joins.
-abbrev stays : ℕ → Labelled → Bool
-stays a t = not (labelled a t) && not (labelled (a + 128) t)
-
 scope-member : (n a : ℕ) (E : Expr) (x : Labelled) → List·Memᴰ x (transitions n (scope a E)) → (List·Memᴰ x (transitions n E) × T (stays a x)) ⊎ JoinedOf n E a (transitions n E) x
 unfolding transitions kept
 scope-member n a E x m =
