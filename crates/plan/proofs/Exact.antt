@@ -175,6 +175,13 @@ field-says (suc d) s at n p e =
     let h : Header s g = record { long = leb-true 3 (length s) long; tagged = tag-at-number (tag-of s) at g ge; room = leb-true (length-of s) (length s - 3) room } in
     body-says d (read-field d) (λ t a m q i. field-says d t a m q i) g s at n p h f″
 
+-- what is read of a field, and of operands, is counted as the expressions are
+pub field-counts : (d : ℕ) (s : List ℕ) (at n : ℕ) (p : Part) → read-field d s at n ≡ good p → (p .bytes ≡ bytes (p .expr)) × (p .so-far ≡ n + actions (p .expr))
+field-counts d s at n p e = let w = field-says d s at n p e in (w .counted, w .numbered)
+
+pub operands-count : (d k : ℕ) (s : List ℕ) (at n : ℕ) (p : Parts k) → read-operands (read-field d) k s at n ≡ good p → p .so-far ≡ n + all-actions k (p .operands)
+operands-count d k s at n p e = operands-say d (read-field d) (field-says d) k s at n p e .numbered
+
 -- what is read of a whole plan
 record PlanSays (s : List ℕ) (E : Expr) : Type 0 where
   counted : bytes E ≡ length s

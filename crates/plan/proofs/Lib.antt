@@ -6,3 +6,14 @@ pub mod Exact
 pub mod Loops
 pub mod AtTheLimits
 pub mod Scopes
+pub mod JudgedByTag
+pub mod Judges
+pub mod NodeTable
+pub mod NodeValues
+pub mod Stands
+pub mod Heads
+pub mod ReaderDetermined
+pub mod Readers
+pub mod Rows
+pub mod Stores
+pub mod WholePlan

@@ -19,6 +19,7 @@ use Rattle.algebra.specs.Expr.{Expr, action, actions}
 use Rattle.plan.specs.Reading.{is-label, Tag, action-tag, tag-at, Part, Operands, Parts, Reader, read-operands, read-body, read-field, read-plan, is-name}
 use Rattle.plan.specs.Loops.{bytes}
 use Rattle.plan.specs.Bytes.{encode, depth, named, within-limits}
+use Rattle.plan.specs.Inner.{field-with}
 use Rattle.plan.proofs.Operators.{Operator, sequence-of, choice-of, parallel-of, loop-of, scope-of, tag, number, arity, own, own-named, built, all-encode, all-bytes, all-actions, all-depth, all-named, number-tag, built-encode, built-bytes, built-actions, built-depth, built-named, Each, by-operators}
 use Rattle.plan.proofs.Within.{limits-within}
 
@@ -42,18 +43,24 @@ built-length o es h =
 pub encode-length : (E : Expr) → length (encode E) ≡ bytes E
 encode-length E = by-operators Counted action-length built-length E
 
+-- a field is read by a reader of the fields inside it
+pub read-field-with : (d : ℕ) (s : List ℕ) (at n : ℕ) → read-field (suc d) s at n ≡ field-with (read-field d) s at n
+unfolding read-field field-with
+read-field-with d s at n = refl
+
 -- where the tests of a header are passed, the body is what is read next
-header-passes : (d : ℕ) (s : List ℕ) (at n : ℕ) (g : Tag) → 3 ≤ length s → tag-at (tag-of s) at ≡ good g → length-of s ≤ length s - 3
-    → read-field (suc d) s at n ≡ read-body (read-field d) g (body-of s) at (3 + length-of s) n
-unfolding read-field
-header-passes d s at n g h e l = rw (le-leb 3 (length s) h, e, le-leb (length-of s) (length s - 3) l)
+pub header-passes : (read : Reader) (s : List ℕ) (at n : ℕ) (g : Tag) → 3 ≤ length s → tag-at (tag-of s) at ≡ good g → length-of s ≤ length s - 3
+    → field-with read s at n ≡ read-body read g (body-of s) at (3 + length-of s) n
+unfolding field-with
+header-passes read s at n g h e l = rw (le-leb 3 (length s) h, e, le-leb (length-of s) (length s - 3) l)
 
 header-reads : (d t : ℕ) (g : Tag) (body rest : List ℕ) (at n : ℕ) → tag-at t at ≡ good g
     → read-field (suc d) (field t body ++ rest) at n ≡ read-body (read-field d) g body at (3 + length body) n
 header-reads d t g body rest at n e =
     let k : length (field t body ++ rest) ≡ 3 + length body + length rest = length-append (field t body) rest ∙ ap (λ (m : ℕ). m + length rest) (field-length t body) in
     let l : length-of (field t body ++ rest) ≡ length body = field-length-of t body rest in
-    header-passes d (field t body ++ rest) at n g (omega arith) (rw (field-tag-of t body rest) e) (omega arith)
+    read-field-with d (field t body ++ rest) at n
+    ∙ header-passes (read-field d) (field t body ++ rest) at n g (omega arith) (rw (field-tag-of t body rest) e) (omega arith)
     ∙ rw (field-body-of t body rest, l)
 
 -- what is read of an expression, with so many actions before it
@@ -90,7 +97,7 @@ operands-read d (suc k) es h g t at n m =
     ∙ rw (add-assoc n (actions E) (all-actions k (es .1)))
 
 -- the operator's own bytes pass their tests, and its operands are what is read next
-own-reads : (read : Reader) (o : Operator) (body : List ℕ) (at b n : ℕ) → T (own-named o)
+pub own-reads : (read : Reader) (o : Operator) (body : List ℕ) (at b n : ℕ) → T (own-named o)
     → read-body read (tag o) (own o ++ body) at b n ≡ (read-operands read (arity o) body (at + (3 + length (own o))) n >>= λ (p : Parts (arity o)). good (record { expr = built o (p .operands); bytes = b; so-far = p .so-far }))
 unfolding read-body
 own-reads read sequence-of body at b n t = refl

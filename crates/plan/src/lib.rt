@@ -1,0 +1,286 @@
+// Reads the bytes of a plan into a table of nodes, a row for each field.
+pub mod exclusive;
+
+ghost use mathlib.Core.Path.{_≡_};
+ghost use Prim.Native.Nat.{_+_, _*_, _≤_, _<_};
+ghost use lib.ListN.{length};
+ghost use Rattle.field.specs.Field.{length-of, body-of};
+ghost use Rattle.plan.specs.Reading.{action-tag, scope-tag, read-body, read-operands, read-field, read-plan};
+ghost use Rattle.plan.specs.Says.{says, read-sizes, RowsAre};
+ghost use Rattle.plan.specs.Inner.{HeadFits, HeadIs, Inside, field-with, RowFits, with-row, FieldFits, FieldIs, OperandsFit, OperandsAre, Room};
+
+// A node takes 3 bytes at least, so a plan has at most 1,365 of them; a row has six numbers.
+pub const ROWS: usize = 6 * 1366;
+
+// What the tests of one field say before its operands are read: the refusal with what it carries; the label of an action; or, of an
+// operator, its tag, its own byte (0 if it has none), how many operands are due, and the part of the field that they stand in.
+enum Head {
+    Refused(usize, usize),
+    Action(u8),
+    Operator {
+        tag: u8,
+        byte: u8,
+        members: usize,
+        start: usize,
+        len: usize,
+    },
+}
+
+// What is read of one field: the bytes that it takes, the number of the next node, and the actions so far.
+enum FieldRead {
+    Refused(usize, usize),
+    Read {
+        used: usize,
+        nodes: usize,
+        actions: usize,
+    },
+}
+
+// What is read of the operands of a body: the number of the next node, and the actions so far.
+enum OperandsRead {
+    Refused(usize, usize),
+    Read { nodes: usize, actions: usize },
+}
+
+// What is read of a plan: how many nodes and actions it has.
+pub enum PlanRead {
+    Refused(usize, usize),
+    Read { nodes: usize, actions: usize },
+}
+
+// An action's own tests: its body is one byte, the byte is a label, and there is room for one more action.
+fn look_action(s: &[u8], at: usize, len: usize, actions: usize) -> Head
+    requires { ⌜ Inside (now s) len ⌝ }
+    ensures fits { λ r. ⌜ HeadFits r (length (now (s .entry))) actions ⌝ }
+    ensures is { λ r. ⌜ HeadIs r (now (s .entry)) at actions (λ read. read-body read action-tag (body-of (now (s .entry))) at (3 + length-of (now (s .entry))) actions) ⌝ }
+{
+    if len != 1 {
+        return Head::Refused(field::WRONG_BODY, at);
+    }
+    let label = s[3];
+    if label == 128 {
+        return Head::Refused(field::WRONG_LABEL, at);
+    }
+    if field::ACTION_LIMIT <= actions {
+        return Head::Refused(field::TOO_MANY_ACTIONS, at);
+    }
+    Head::Action(label)
+}
+
+// A scope's own tests: its body begins with a byte, and the byte is a name.
+fn look_scope(s: &[u8], at: usize, len: usize, actions: usize) -> Head
+    requires { ⌜ Inside (now s) len ⌝ }
+    ensures fits { λ r. ⌜ HeadFits r (length (now (s .entry))) actions ⌝ }
+    ensures is { λ r. ⌜ HeadIs r (now (s .entry)) at actions (λ read. read-body read scope-tag (body-of (now (s .entry))) at (3 + length-of (now (s .entry))) actions) ⌝ }
+{
+    if len == 0 {
+        return Head::Refused(field::WRONG_BODY, at);
+    }
+    let name = s[3];
+    if name == 0 {
+        return Head::Refused(field::WRONG_LABEL, at);
+    }
+    if 127 < name {
+        return Head::Refused(field::WRONG_LABEL, at);
+    }
+    Head::Operator {
+        tag: 6,
+        byte: name,
+        members: 1,
+        start: 4,
+        len: len - 1,
+    }
+}
+
+// The tests of one field that ask for no operand, in 01's order. `s` is what is left of the enclosing body, so that a length beyond
+// that body is refused even where the plan goes on.
+fn look(s: &[u8], at: usize, actions: usize) -> Head
+    ensures fits { λ r. ⌜ HeadFits r (length (now (s .entry))) actions ⌝ }
+    ensures is { λ r. ⌜ HeadIs r (now (s .entry)) at actions (λ read. field-with read (now (s .entry)) at actions) ⌝ }
+{
+    if s.len() < 3 {
+        return Head::Refused(field::FIELD_CUT, at);
+    }
+    let tag = s[0];
+    if tag == 0 {
+        return Head::Refused(field::UNKNOWN_TAG, at);
+    }
+    if 6 < tag {
+        return Head::Refused(field::UNKNOWN_TAG, at);
+    }
+    let len = s[1] as usize * 256 + s[2] as usize;
+    if s.len() - 3 < len {
+        return Head::Refused(field::FIELD_CUT, at);
+    }
+    if tag == 1 {
+        return look_action(s, at, len, actions);
+    }
+    if tag == 6 {
+        return look_scope(s, at, len, actions);
+    }
+    // A loop has three operands, and a sequence, a choice and a parallel have two.
+    let members = if tag == 5 { 3 } else { 2 };
+    Head::Operator {
+        tag: tag,
+        byte: 0,
+        members: members,
+        start: 3,
+        len: len,
+    }
+}
+
+// One row of the table.
+fn put_row(
+    rows: &mut [u16; ROWS],
+    node: usize,
+    tag: u8,
+    byte: u8,
+    members: usize,
+    after: usize,
+    first: usize,
+    at: usize,
+)
+    requires { ⌜ RowFits node members after first at ⌝ }
+    ensures { λ r. ⌜ now (rows .exit) ≡ with-row (now (rows .entry)) (6 * node) tag byte members after first at ⌝ }
+{
+    let start = 6 * node;
+    rows[start] = tag as u16;
+    rows[start + 1] = byte as u16;
+    rows[start + 2] = members as u16;
+    rows[start + 3] = after as u16;
+    rows[start + 4] = first as u16;
+    rows[start + 5] = at as u16;
+}
+
+// One field at the front of `s`, which is what is left of its enclosing body and stands at `at` in the plan. Its node has the number
+// `node`, and `levels` more levels may be opened, this one among them.
+fn read_field(
+    s: &[u8],
+    at: usize,
+    levels: usize,
+    node: usize,
+    actions: usize,
+    rows: &mut [u16; ROWS],
+) -> FieldRead
+    requires { ⌜ Room (length (now s)) at node actions ⌝ }
+    ensures fits { λ r. ⌜ FieldFits r (length (now (s .entry))) node ⌝ }
+    ensures is { λ r. ⌜ FieldIs (read-field levels (now (s .entry)) at actions) r node actions at (now (rows .entry)) (now (rows .exit)) ⌝ }
+{
+    if levels == 0 {
+        return FieldRead::Refused(field::TOO_DEEP, at);
+    }
+    match look(s, at, actions) {
+        Head::Refused(number, carried) => FieldRead::Refused(number, carried),
+        Head::Action(label) => {
+            put_row(rows, node, 1, label, 0, node + 1, actions, at);
+            FieldRead::Read {
+                used: 4,
+                nodes: node + 1,
+                actions: actions + 1,
+            }
+        }
+        Head::Operator {
+            tag,
+            byte,
+            members,
+            start,
+            len,
+        } => {
+            let e = start + len;
+            match read_operands(
+                &s[start..e],
+                at + start,
+                levels - 1,
+                node + 1,
+                actions,
+                members,
+                rows,
+            ) {
+                OperandsRead::Refused(number, carried) => FieldRead::Refused(number, carried),
+                OperandsRead::Read {
+                    nodes,
+                    actions: so_far,
+                } => {
+                    // Only now is the node after the subtree known.
+                    put_row(rows, node, tag, byte, members, nodes, actions, at);
+                    FieldRead::Read {
+                        used: e,
+                        nodes: nodes,
+                        actions: so_far,
+                    }
+                }
+            }
+        }
+    }
+}
+
+// So many operands, and no byte after the last. `s` is what is left of the enclosing body: nothing else can be read from here.
+fn read_operands(
+    s: &[u8],
+    at: usize,
+    levels: usize,
+    node: usize,
+    actions: usize,
+    members: usize,
+    rows: &mut [u16; ROWS],
+) -> OperandsRead
+    requires { ⌜ Room (length (now s)) at node actions ⌝ }
+    ensures fits { λ r. ⌜ OperandsFit r (length (now (s .entry))) node ⌝ }
+    ensures are { λ r. ⌜ OperandsAre members (read-operands (read-field levels) members (now (s .entry)) at actions) r node actions at (now (rows .entry)) (now (rows .exit)) ⌝ }
+{
+    if members == 0 {
+        if 0 < s.len() {
+            return OperandsRead::Refused(field::BYTES_AFTER, at);
+        }
+        return OperandsRead::Read {
+            nodes: node,
+            actions: actions,
+        };
+    }
+    if s.len() == 0 {
+        return OperandsRead::Refused(field::OPERAND_DUE, at);
+    }
+    match read_field(s, at, levels, node, actions, rows) {
+        FieldRead::Refused(number, carried) => OperandsRead::Refused(number, carried),
+        FieldRead::Read {
+            used,
+            nodes,
+            actions: so_far,
+        } => {
+            read_operands(
+                &s[used..],
+                at + used,
+                levels,
+                nodes,
+                so_far,
+                members - 1,
+                rows,
+            )
+        }
+    }
+}
+
+// An array that is lent as a slice tells its length to the proof: what `read_plan` says of the rows rests on that.
+fn numbers_in(s: &[u16]) -> usize
+    ensures { λ r. ⌜ r ≡ length (now (s .entry)) ⌝ }
+{
+    s.len()
+}
+
+// A whole plan: one field, and nothing after it. The rows of its nodes are written from the front, and no other.
+pub fn read_plan(plan: &[u8], rows: &mut [u16; ROWS]) -> PlanRead
+    ensures answer { λ r. ⌜ says r ≡ read-sizes (now (plan .entry)) ⌝ }
+    ensures rows { λ r. ⌜ RowsAre (read-plan (now (plan .entry))) (now (rows .entry)) (now (rows .exit)) ⌝ }
+{
+    if field::PLAN_LIMIT < plan.len() {
+        return PlanRead::Refused(field::PLAN_TOO_LONG, 0);
+    }
+    numbers_in(rows);
+    match read_operands(plan, 0, field::DEPTH_LIMIT, 0, 0, 1, rows) {
+        OperandsRead::Refused(number, carried) => PlanRead::Refused(number, carried),
+        OperandsRead::Read { nodes, actions } => PlanRead::Read {
+            nodes: nodes,
+            actions: actions,
+        },
+    }
+}

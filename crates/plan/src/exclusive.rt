@@ -1,0 +1,116 @@
+// 01, "Box construction": "A loop body must be exclusive". Every node of the node table is judged, the node number falling, so that a
+// node's operands, whose numbers are higher, are judged before it; the loop found last is the first of the plan.
+ghost use mathlib.Core.Path.{_≡_};
+ghost use Prim.Native.Nat.{ℕ, _+_, _*_, _≤_};
+ghost use lib.ListN.{getD, replicate};
+ghost use Rattle.algebra.specs.Expr.{Expr};
+ghost use Rattle.plan.specs.Loops.{check-loops};
+ghost use Rattle.plan.specs.Table.{Table};
+ghost use Rattle.plan.specs.Judged.{loops-say, first-of, exclusive-by, fault-by, Judged};
+
+// The tags that are asked for, and the numbers of a row.
+const CHOICE: usize = 3;
+
+const PARALLEL: usize = 4;
+
+const LOOP: usize = 5;
+
+const SCOPE: usize = 6;
+
+pub const TAG: usize = 0;
+
+pub const AFTER: usize = 3;
+
+const AT: usize = 5;
+
+// Every loop's body is exclusive, or the offset of the first loop whose body is not.
+pub enum Loops {
+    Fine,
+    Faulty(usize),
+}
+
+// The number at a place, 0 past the end.
+pub fn number_at(s: &[u16], i: usize) -> u16
+    ensures { λ r. ⌜ r ≡ getD (now (s .entry)) i 0 ⌝ }
+{
+    if i < s.len() { s[i] } else { 0 }
+}
+
+pub fn wide(x: u16) -> usize
+    ensures { λ r. ⌜ (r ≡ x) × (r ≤ 65535) ⌝ }
+{
+    x as usize
+}
+
+// Number j of row k.
+pub fn row_number(rows: &[u16], k: usize, j: usize) -> usize
+    requires { ⌜ (k ≤ 65536) × (j ≤ 5) ⌝ }
+    ensures { λ r. ⌜ (r ≡ getD (now (rows .entry)) (6 * k + j) 0) × (r ≤ 65535) ⌝ }
+{
+    wide(number_at(rows, 6 * k + j))
+}
+
+// "an action; any sequence; any loop; a choice of two exclusive ones; a scope of an exclusive one. A parallel is not."
+fn is_exclusive(rows: &[u16], k: usize, exclusive: &[u16]) -> u16
+    requires { ⌜ k ≤ 65535 ⌝ }
+    ensures { λ r. ⌜ r ≡ exclusive-by (now (rows .entry)) (now (exclusive .entry)) k ⌝ }
+{
+    let tag = row_number(rows, k, TAG);
+    if tag == CHOICE {
+        if number_at(exclusive, k + 1) == 0 {
+            return 0;
+        }
+        return number_at(exclusive, row_number(rows, k + 1, AFTER));
+    }
+    if tag == PARALLEL {
+        return 0;
+    }
+    if tag == SCOPE {
+        return number_at(exclusive, k + 1);
+    }
+    1
+}
+
+// The loops from node k on, where those after it are told.
+fn with_node(rows: &[u16], k: usize, exclusive: &[u16], after: Loops) -> Loops
+    requires { ⌜ k ≤ 65535 ⌝ }
+    ensures { λ r. ⌜ loops-say r ≡ first-of (fault-by (now (rows .entry)) (now (exclusive .entry)) k) (loops-say after) ⌝ }
+{
+    let tag = row_number(rows, k, TAG);
+    if tag == LOOP {
+        if number_at(exclusive, row_number(rows, k + 1, AFTER)) == 0 {
+            return Loops::Faulty(row_number(rows, k, AT));
+        }
+        return after;
+    }
+    after
+}
+
+// Judges the nodes below k, where those from k on are judged and their loops told.
+fn judge(rows: &[u16], k: usize, exclusive: &mut [u16; 1366], after: Loops) -> Loops
+    requires { ⌜ k ≤ 1366 ⌝ }
+    ensures { λ r. ⌜ Judged (now (rows .entry)) k (now (exclusive .entry)) (now (exclusive .exit)) (loops-say after) (loops-say r) ⌝ }
+{
+    if k == 0 {
+        return after;
+    }
+    let node = k - 1;
+    exclusive[node] = is_exclusive(rows, node, exclusive);
+    let found = with_node(rows, node, exclusive, after);
+    judge(rows, node, exclusive, found)
+}
+
+fn none_judged() -> [u16; 1366]
+    ensures { λ r. ⌜ r ≡ replicate 1366 0 ⌝ }
+{
+    [0u16; 1366]
+}
+
+// The check for loops of the plan whose node table the rows begin with.
+pub fn check_loops(rows: &[u16; 8196], nodes: usize) -> Loops
+    requires { ⌜ nodes ≤ 1366 ⌝ }
+    ensures { λ r. ⌜ ((E : Expr) → Table (now (rows .entry)) nodes E → loops-say r ≡ check-loops E) ⌝ }
+{
+    let mut exclusive = none_judged();
+    judge(rows, nodes, &mut exclusive, Loops::Fine)
+}
