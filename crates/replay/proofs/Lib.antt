@@ -1,1 +1,3 @@
 pub mod KnownNets
+pub mod Runs
+pub mod Demand3
