@@ -5,3 +5,5 @@ pub mod ArcsRise
 pub mod PairsDiffer
 pub mod LabelsFit
 pub mod TablesAreANet
+pub mod CountedByTag
+pub mod CountsEachNode

@@ -1,2 +1,4 @@
 pub mod Counts
 pub mod Compile
+pub mod Counted
+pub mod NodeCounts

@@ -1,23 +1,22 @@
 -- Each way out of the tests of one field says what is read of it: the refusal, the action, or the operator with the part that its operands stand in.
 -- True because the tests on the way are those of the definition, in its order.
-use Prim.Native.Nat.{ℕ, zero, suc, _+_, _*_, _-_, _≤_, _<_}
-use mathlib.Core.Path.{_≡_, refl, sym, ap, _∙_, subst}
+use Prim.Native.Nat.{ℕ, suc, _+_, _-_, _≤_, _<_}
+use mathlib.Core.Path.{_≡_, refl, sym, ap, _∙_}
 use mathlib.Core.List.{List, [], _∷_, _++_}
-use mathlib.Core.Bool.{Bool, true, false, cond, _&&_, _||_}
-use mathlib.Core.Logic.{_⊎_, inl, inr}
+use mathlib.Core.Bool.{Bool, true, false, _&&_, _||_}
 use native.Mathlib.Omega.{arith}
-use lib.ListN.{length, getD, take, drop, length-take, length-drop}
-use lib.Seq.{getD-take, getD-drop, drop-drop, drop-cons, take-append-seam}
-use lib.Dec.{T, eqb, leb, ltb}
+use lib.ListN.{length, getD, take, drop}
+use lib.Seq.{getD-take, getD-drop, drop-cons}
+use lib.Dec.{T, eqb, leb}
 use borrow.Author.Tests.{lt-ltb, le-ltb, le-leb, lt-leb, eq-eqb, ne-eqb, eqb-true, eqb-false, leb-false}
 use Rattle.field.specs.Limits.{action-limit}
 use Rattle.field.specs.Refusals.{field-cut, unknown-tag, wrong-body, wrong-label, too-many-actions}
-use Rattle.field.specs.Answer.{Answer, good, refused, _>>=_}
+use Rattle.field.specs.Answer.{Answer, good, refused}
 use Rattle.field.specs.Field.{tag-of, length-of, body-of}
 use Rattle.field.proofs.Tests.{true-T}
 use Rattle.field.proofs.Fields.{body-of-length}
-use Rattle.algebra.specs.Expr.{Expr, action}
-use Rattle.plan.specs.Reading.{is-label, is-name, Tag, action-tag, sequence-tag, choice-tag, parallel-tag, loop-tag, scope-tag, tag-at, Part, Parts, Reader, read-operands, read-body}
+use Rattle.algebra.specs.Expr.{action}
+use Rattle.plan.specs.Reading.{is-label, is-name, Tag, action-tag, sequence-tag, choice-tag, parallel-tag, loop-tag, scope-tag, tag-at, Part, Reader, read-body}
 use Rattle.plan.specs.Inner.{Inside, field-with, IsOperator, HeadIs}
 use Rattle.plan.specs.declared.Head.{Head}
 use Rattle.plan.specs.declared.Head.the-variants as head

@@ -2,54 +2,48 @@
 -- True by the tests that led there: each settles one test of the definition.
 use Prim.Native.Nat.{ℕ, _+_, _*_}
 use mathlib.Core.Path.{_≡_, refl, sym, _∙_, ap}
-use mathlib.Core.List.{List, [], _∷_}
+use mathlib.Core.List.{List, _∷_}
 use lib.ListN.{getD}
-use borrow.Author.Tests.{eq-eqb, ne-eqb}
+use borrow.Author.Tests.{ne-eqb}
 use Rattle.field.specs.Refusals.{body-not-exclusive}
-use Rattle.field.specs.Answer.{Answer, refused}
+use Rattle.field.specs.Answer.{good, refused}
+use Rattle.plan.specs.Loops.{no-fault}
 use Rattle.plan.specs.Table.{tag-at, after-at}
-use Rattle.plan.specs.Judged.{exclusive-by, fault-by, first-of}
+use Rattle.plan.specs.Judged.{exclusive-by, fault-by}
+use Rattle.plan.proofs.NodeTable.{is, is-not}
 
 module _ (rows table : List ℕ) (k : ℕ) {tag : ℕ} (read : tag ≡ tag-at rows k) where
-  is : {n : ℕ} → tag ≡ n → tag-at rows k ≡ n
-  is e = sym read ∙ e
-
-  is-not : {n : ℕ} → (tag ≡ n → ⊥) → tag-at rows k ≡ n → ⊥
-  is-not f e = f (read ∙ e)
-
   pub choice-first-not : {v : ℕ} → tag ≡ 3 → v ≡ getD table (k + 1) 0 → v ≡ 0 → 0 ≡ exclusive-by rows table k
   unfolding exclusive-by
-  choice-first-not t e z = rw (is t, sym e ∙ z) refl
+  choice-first-not t e z = rw (is read t, sym e ∙ z) refl
 
   pub choice-second : {v b w : ℕ} → tag ≡ 3 → v ≡ getD table (k + 1) 0 → (v ≡ 0 → ⊥) → b ≡ after-at rows (k + 1) → w ≡ getD table b 0 → w ≡ exclusive-by rows table k
   unfolding exclusive-by
-  choice-second t e z p q = rw (is t, ne-eqb (getD table (k + 1) 0) 0 (λ y. z (e ∙ y))) (q ∙ ap (λ b. getD table b 0) p)
+  choice-second t e z p q = rw (is read t, ne-eqb (getD table (k + 1) 0) 0 (λ y. z (e ∙ y))) (q ∙ ap (λ b. getD table b 0) p)
 
   pub parallel-not : (tag ≡ 3 → ⊥) → tag ≡ 4 → 0 ≡ exclusive-by rows table k
   unfolding exclusive-by
-  parallel-not a t = rw (is t) refl
+  parallel-not a t = rw (is read t) refl
 
   pub scope-operand-is : {v : ℕ} → (tag ≡ 3 → ⊥) → (tag ≡ 4 → ⊥) → tag ≡ 6 → v ≡ getD table (k + 1) 0 → v ≡ exclusive-by rows table k
   unfolding exclusive-by
-  scope-operand-is a b t e = rw (is t) e
+  scope-operand-is a b t e = rw (is read t) e
 
   pub others-are : (tag ≡ 3 → ⊥) → (tag ≡ 4 → ⊥) → (tag ≡ 6 → ⊥) → 1 ≡ exclusive-by rows table k
   unfolding exclusive-by
   others-are a b d =
-      rw (ne-eqb (tag-at rows k) 3 (is-not a), ne-eqb (tag-at rows k) 4 (is-not b), ne-eqb (tag-at rows k) 6 (is-not d)) refl
+      rw (ne-eqb (tag-at rows k) 3 (is-not read a), ne-eqb (tag-at rows k) 4 (is-not read b), ne-eqb (tag-at rows k) 6 (is-not read d)) refl
 
-  module _ (rest : Answer (Unit {0})) where
-    pub loop-faulty : {b v at : ℕ} → tag ≡ 5 → b ≡ after-at rows (k + 1) → v ≡ getD table b 0 → v ≡ 0 → at ≡ getD rows (6 * k + 5) 0
-        → refused body-not-exclusive at ≡ first-of (fault-by rows table k) rest
-    unfolding fault-by
-    loop-faulty t p q z o =
-        rw (is t, sym (q ∙ ap (λ b. getD table b 0) p) ∙ z) (ap (refused body-not-exclusive) o)
+  pub loop-faulty : {b v at : ℕ} → tag ≡ 5 → b ≡ after-at rows (k + 1) → v ≡ getD table b 0 → v ≡ 0 → at ≡ getD rows (6 * k + 5) 0
+      → refused body-not-exclusive at ≡ no-fault (fault-by rows table k)
+  unfolding fault-by
+  loop-faulty t p q z o = rw (is read t, sym (q ∙ ap (λ b. getD table b 0) p) ∙ z) (ap (refused body-not-exclusive) o)
 
-    pub loop-fine : {b v : ℕ} → tag ≡ 5 → b ≡ after-at rows (k + 1) → v ≡ getD table b 0 → (v ≡ 0 → ⊥) → rest ≡ first-of (fault-by rows table k) rest
-    unfolding fault-by
-    loop-fine {v = v} t p q z =
-        rw (is t, ne-eqb (getD table (after-at rows (k + 1)) 0) 0 (λ y. z (q ∙ ap (λ b. getD table b 0) p ∙ y))) refl
+  pub loop-fine : {b v : ℕ} → tag ≡ 5 → b ≡ after-at rows (k + 1) → v ≡ getD table b 0 → (v ≡ 0 → ⊥) → good tt ≡ no-fault (fault-by rows table k)
+  unfolding fault-by
+  loop-fine t p q z =
+      rw (is read t, ne-eqb (getD table (after-at rows (k + 1)) 0) 0 (λ y. z (q ∙ ap (λ b. getD table b 0) p ∙ y))) refl
 
-    pub no-loop : (tag ≡ 5 → ⊥) → rest ≡ first-of (fault-by rows table k) rest
-    unfolding fault-by
-    no-loop a = rw (ne-eqb (tag-at rows k) 5 (is-not a)) refl
+  pub no-loop : (tag ≡ 5 → ⊥) → good tt ≡ no-fault (fault-by rows table k)
+  unfolding fault-by
+  no-loop a = rw (ne-eqb (tag-at rows k) 5 (is-not read a)) refl

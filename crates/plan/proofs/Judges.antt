@@ -2,26 +2,23 @@
 -- A node is judged from operands that are judged; what a loop's body was judged to be stays so, since bodies come after their loops.
 use Prim.Native.Nat.{ℕ, zero, suc, _+_, _*_, _-_, _≤_, _<_}
 use native.Mathlib.Omega.{arith}
-use native.Mathlib.Decide.{decLt}
-use native.Mathlib.Numerals.{add-one}
 use mathlib.Core.Path.{_≡_, refl, sym, _∙_, ap, ap₂, subst}
 use mathlib.Core.List.{List, [], _∷_, _++_, append-assoc, append-nil}
 use mathlib.Core.Bool.{Bool, true, false, cond, _&&_}
 use lib.ListN.{length, getD, set}
 use lib.Seq.{getD-set-same, getD-set-other}
 use lib.Dec.{eqb}
-use borrow.Author.Tests.{eqb-true, eqb-false, eq-eqb, ne-eqb}
-use Rattle.field.specs.Refusals.{body-not-exclusive}
-use Rattle.field.specs.Answer.{Answer, good, refused}
+use borrow.Author.Tests.{eqb-true}
+use Rattle.field.specs.Answer.{Answer, good, _>>_}
 use Rattle.algebra.specs.Expr.{Expr, action, sequence, choice, parallel, loop, scope}
 use Rattle.algebra.specs.Exclusive.{exclusive}
-use Rattle.plan.specs.Loops.{bytes, faulty-loops, no-fault, check-loops}
+use Rattle.plan.specs.Loops.{faulty-loops, no-fault, check-loops}
 use Rattle.plan.specs.Nodes.{node-count}
-use Rattle.plan.specs.Table.{Table, Stands, Node, tag-at, after-at, Known}
-use Rattle.plan.specs.Judged.{bit, exclusive-bit, exclusive-by, fault-by, joined, first-of, Ordered, Judged}
+use Rattle.plan.specs.Table.{Table, Node, tag-at, after-at, Known}
+use Rattle.plan.specs.Judged.{bit, exclusive-bit, exclusive-by, fault-by, joined, Judged}
 use Rattle.plan.proofs.Stands.{stands-one}
-use Rattle.plan.proofs.NodeTable.{tag-of, node-says, sequence-operands, choice-operands, parallel-operands, loop-operands, scope-operand}
-use Rattle.plan.proofs.NodeValues.{table-node, every, none-known, one-known, node-count-positive}
+use Rattle.plan.proofs.NodeTable.{node-says, sequence-operands, choice-operands, parallel-operands, loop-operands, scope-operand}
+use Rattle.plan.proofs.NodeValues.{table-node, every, none-known, one-known}
 
 both-bits : (a b : Bool) → cond (eqb (bit a) 0) 0 (bit b) ≡ bit (a && b)
 both-bits true b = refl
@@ -123,11 +120,12 @@ module _ (rows : List ℕ) (count : ℕ) (table : List ℕ) (known : Known rows 
       (joined-next (faults-right E e) (joined-next (faults-right F f) (faults-right G g)))
   faults-right (scope a E) n = joined-next (own (scope a E) n) (faults-right E (scope-operand rows count E n))
 
-first-append : (l m : List ℕ) (rest : Answer (Unit {0})) → first-of (l ++ m) rest ≡ first-of l (first-of m rest)
-first-append [] m rest = refl
-first-append (at ∷ l) m rest = refl
+first-of-both : (l m : List ℕ) (rest : Answer (Unit {0})) → (no-fault (l ++ m) >> rest) ≡ (no-fault l >> (no-fault m >> rest))
+first-of-both [] [] rest = refl
+first-of-both [] (at ∷ m) rest = refl
+first-of-both (at ∷ l) m rest = refl
 
-first-alone : (l : List ℕ) → first-of l (good tt) ≡ no-fault l
+first-alone : (l : List ℕ) → (no-fault l >> good tt) ≡ no-fault l
 first-alone [] = refl
 first-alone (at ∷ l) = refl
 
@@ -155,7 +153,7 @@ module _ (rows : List ℕ) (k : ℕ) (before after : List ℕ) (here : k < lengt
           (sym (kept (after-at rows (k + 1)) (omega (arith, ordered (eqb-true _ _ e)))))
       go false e = refl
 
-  one-more : {rest answer : Answer (Unit {0})} → Judged rows k between after (first-of (fault-by rows between k) rest) answer → Judged rows (k + 1) before after rest answer
+  one-more : {rest answer : Answer (Unit {0})} → Judged rows k between after (no-fault (fault-by rows between k) >> rest) answer → Judged rows (k + 1) before after rest answer
   one-more {rest} {answer} j =
       record {
         kept = λ m h. j .kept m (omega arith) ∙ getD-set-other before k m (exclusive-by rows before k) 0 (λ e. omega arith);
@@ -165,19 +163,19 @@ module _ (rows : List ℕ) (k : ℕ) (before after : List ℕ) (here : k < lengt
             (λ i at E n. stands-one between k (getD-set-same before k _ 0 here ∙ judged-right rows count before k known E n)));
         first = λ ordered.
             j .first (λ m h. ordered m (omega arith))
-            ∙ ap (λ l. first-of (joined (fault-by rows after) 0 k) (first-of l rest)) (same-fault (j .kept) (ordered k (omega arith)))
-            ∙ sym (first-append (joined (fault-by rows after) 0 k) (fault-by rows after k) rest)
-            ∙ ap (λ l. first-of l rest) (sym (joined-last (fault-by rows after) k));
+            ∙ ap (λ l. no-fault (joined (fault-by rows after) 0 k) >> (no-fault l >> rest)) (same-fault (j .kept) (ordered k (omega arith)))
+            ∙ sym (first-of-both (joined (fault-by rows after) 0 k) (fault-by rows after k) rest)
+            ∙ ap (λ l. no-fault l >> rest) (sym (joined-last (fault-by rows after) k));
       }
 
 -- The same as the code has it, which counts the nodes that are left.
-pub turn : (rows before after : List ℕ) {k v : ℕ} {rest found answer : Answer (Unit {0})} → (k ≡ 0 → ⊥) → k ≤ length before
-    → v ≡ exclusive-by rows before (k - 1) → found ≡ first-of (fault-by rows (set before (k - 1) v) (k - 1)) rest
+pub turn : (rows before after : List ℕ) {k v : ℕ} {rest own found answer : Answer (Unit {0})} → (k ≡ 0 → ⊥) → k ≤ length before
+    → v ≡ exclusive-by rows before (k - 1) → own ≡ no-fault (fault-by rows (set before (k - 1) v) (k - 1)) → found ≡ (own >> rest)
     → Judged rows (k - 1) (set before (k - 1) v) after found answer → Judged rows k before after rest answer
-turn rows before after {k} {v} {rest} {found} {answer} some fits e f j =
+turn rows before after {k} {v} {rest} {own} {found} {answer} some fits e f g j =
     let p : k - 1 + 1 ≡ k = omega arith in
     let at : ℕ → List ℕ = λ w. set before (k - 1) w in
-    let q : found ≡ first-of (fault-by rows (at (exclusive-by rows before (k - 1))) (k - 1)) rest = f ∙ ap (λ w. first-of (fault-by rows (at w) (k - 1)) rest) e in
+    let q : found ≡ (no-fault (fault-by rows (at (exclusive-by rows before (k - 1))) (k - 1)) >> rest) = g ∙ ap (λ a. a >> rest) (f ∙ ap (λ w. no-fault (fault-by rows (at w) (k - 1))) e) in
     let i : Judged rows (k - 1) (at (exclusive-by rows before (k - 1))) after found answer = subst (λ w. Judged rows (k - 1) (at w) after found answer) e j in
     subst (λ m. Judged rows m before after rest answer) p
     (one-more rows (k - 1) before after (omega arith) (subst (λ a. Judged rows (k - 1) (at (exclusive-by rows before (k - 1))) after a answer) q i))

@@ -1,17 +1,15 @@
 -- The rows of a node table, taken apart: what a row says of its node, where the operands' rows stand, and that every number below the count is a node's.
 -- True by the order of the rows: a node's own, then those of its operands one after another, as many as they have nodes.
-use Prim.Native.Nat.{ℕ, _+_, _*_, _-_, _≤_, _<_}
+use Prim.Native.Nat.{ℕ, _+_, _*_, _≤_}
 use native.Mathlib.Omega.{arith}
-use native.Mathlib.Decide.{decLt}
-use native.Mathlib.Nat.{mul-add}
 use mathlib.Core.Path.{_≡_, refl, sym, _∙_, ap, subst}
 use mathlib.Core.List.{List, [], _∷_, _++_}
-use lib.ListN.{length, getD, take, length-append}
+use lib.ListN.{length, getD, length-append}
 use Rattle.algebra.specs.Expr.{Expr, action, sequence, choice, parallel, loop, scope, actions}
 use Rattle.plan.specs.Loops.{bytes}
-use Rattle.plan.specs.Nodes.{Row, row, numbers, nodes, node-count, node-table}
-use Rattle.plan.specs.Table.{Table, Stands, Node, tag-at, after-at, values, Known}
-use Rattle.plan.proofs.Stands.{stands-first, stands-second, stands-both, stands-at, stands-take, stands-kept}
+use Rattle.plan.specs.Nodes.{Row, row, numbers, nodes, node-count}
+use Rattle.plan.specs.Table.{Stands, Node, tag-at, after-at}
+use Rattle.plan.proofs.Stands.{stands-first, stands-second, stands-at}
 
 numbers-append : (rs qs : List Row) → numbers (rs ++ qs) ≡ numbers rs ++ numbers qs
 unfolding numbers
@@ -50,6 +48,13 @@ tag-of (choice E F) = 3
 tag-of (parallel E F) = 4
 tag-of (loop E F G) = 5
 tag-of (scope a E) = 6
+
+-- A number that was read is what stands there.
+pub is : {tag there n : ℕ} → tag ≡ there → tag ≡ n → there ≡ n
+is read e = sym read ∙ e
+
+pub is-not : {tag there n : ℕ} → tag ≡ there → (tag ≡ n → ⊥) → there ≡ n → ⊥
+is-not read f e = f (read ∙ e)
 
 module _ (rows : List ℕ) (count : ℕ) where
   -- What a row says.

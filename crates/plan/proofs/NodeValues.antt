@@ -1,14 +1,14 @@
 -- What holds at every node holds for every number below the count, and a table that holds the value of every node holds the values in their order.
 -- True by recursion on the expression: its own row comes first, then its operands', each as many as it has nodes.
-use Prim.Native.Nat.{ℕ, _+_, _*_, _-_, _≤_, _<_}
+use Prim.Native.Nat.{ℕ, _+_, _*_, _≤_, _<_}
 use native.Mathlib.Omega.{arith}
 use native.Mathlib.Decide.{decLt}
 use native.Mathlib.Nat.{mul-add, mul-le-mul-left}
-use mathlib.Core.Path.{_≡_, refl, sym, _∙_, ap, subst}
-use mathlib.Core.List.{List, [], _∷_, _++_}
-use lib.ListN.{length, getD, take, length-append, length-take}
+use mathlib.Core.Path.{_≡_, sym, _∙_, ap, subst}
+use mathlib.Core.List.{List, _++_}
+use lib.ListN.{length, getD, length-append, length-take}
 use Rattle.algebra.specs.Expr.{Expr, action, sequence, choice, parallel, loop, scope}
-use Rattle.plan.specs.Nodes.{numbers, nodes, node-count, node-table}
+use Rattle.plan.specs.Nodes.{nodes, node-count, node-table}
 use Rattle.plan.specs.Table.{Table, Stands, Node, values, Known}
 use Rattle.plan.proofs.Stands.{stands-both, stands-at, stands-take, stands-kept}
 use Rattle.plan.proofs.NodeTable.{rows-length, sequence-operands, choice-operands, parallel-operands, loop-operands, scope-operand}

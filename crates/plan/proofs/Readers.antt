@@ -1,21 +1,20 @@
 -- Each way out of the readers of a field and of operands gives what the definition says, and has stored the rows of the nodes that were read.
 -- True because the readers go by the definition's cases, and each operand's rows follow those of the one before it.
 use Prim.Native.Nat.{ℕ, zero, suc, _+_, _*_, _-_, _≤_, _<_}
-use mathlib.Core.Path.{_≡_, refl, sym, ap, _∙_, subst}
-use mathlib.Core.List.{List, [], _∷_, _++_}
+use mathlib.Core.Path.{_≡_, refl, ap, _∙_}
+use mathlib.Core.List.{List, [], _∷_}
 use native.Mathlib.Omega.{arith}
 use native.Mathlib.Nat.{add-zero, add-assoc, add-sub-cancel-left}
 use native.Mathlib.Numerals.{sub-one}
 use lib.ListN.{length, take, drop, length-take, length-drop}
 use lib.Seq.{sets, take-all}
-use Rattle.field.specs.Limits.{action-limit}
 use Rattle.field.specs.Refusals.{operand-due, too-deep, bytes-after}
 use Rattle.field.specs.Answer.{Answer, good, refused, _>>=_}
-use Rattle.algebra.specs.Expr.{Expr, action, actions}
+use Rattle.algebra.specs.Expr.{actions}
 use Rattle.plan.specs.Loops.{bytes}
-use Rattle.plan.specs.Reading.{Part, Operands, Parts, Reader, read-operands, read-field}
-use Rattle.plan.specs.Nodes.{Row, row, numbers, node-count, nodes}
-use Rattle.plan.specs.Inner.{all-nodes, all-rows, with-row, field-with, IsOperator, HeadIs, HeadFits, FieldFits, OperandsFit, FieldIs, OperandsAre}
+use Rattle.plan.specs.Reading.{Part, Parts, Reader, read-operands, read-field}
+use Rattle.plan.specs.Nodes.{numbers, node-count, nodes}
+use Rattle.plan.specs.Inner.{all-nodes, all-rows, with-row, field-with, IsOperator, HeadIs, OperandsFit, FieldIs, OperandsAre}
 use Rattle.plan.specs.declared.Head.{Head}
 use Rattle.plan.specs.declared.Head.the-variants as head
 use Rattle.plan.specs.declared.FieldRead.{FieldRead}

@@ -67,9 +67,13 @@ abbrev pub with-row : List ℕ → ℕ → ℕ → ℕ → ℕ → ℕ → ℕ �
 with-row rows i tag byte members after first at =
     set (set (set (set (set (set rows i tag) (i + 1) byte) (i + 2) members) (i + 3) after) (i + 4) first) (i + 5) at
 
+-- A node takes three bytes at least, so a plan has fewer nodes than the table has rows.
+abbrev pub row-limit : ℕ
+row-limit = 1366
+
 -- The numbers of a row go into the table, and into 16 bits.
 pub record RowFits (node members after first at : ℕ) : Type 0 where
-  pub inside : node < 1366
+  pub inside : node < row-limit
   pub few : members < 65536
   pub next : after < 65536
   pub counted : first < 65536

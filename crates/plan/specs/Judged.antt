@@ -2,13 +2,14 @@
 use Prim.Native.Nat.{ℕ, zero, suc, _+_, _*_, _≤_, _<_}
 use mathlib.Core.Path.{_≡_}
 use mathlib.Core.List.{List, [], _∷_, _++_}
-use mathlib.Core.Bool.{Bool, true, false, cond, _&&_}
+use mathlib.Core.Bool.{Bool, true, false, cond}
 use lib.ListN.{getD}
 use lib.Dec.{eqb}
 use Rattle.field.specs.Refusals.{body-not-exclusive}
-use Rattle.field.specs.Answer.{Answer, good, refused}
+use Rattle.field.specs.Answer.{Answer, good, refused, _>>_}
 use Rattle.algebra.specs.Expr.{Expr}
 use Rattle.algebra.specs.Exclusive.{exclusive}
+use Rattle.plan.specs.Loops.{no-fault}
 use Rattle.plan.specs.Table.{tag-at, after-at, Known}
 use Rattle.plan.specs.declared.exclusive.Loops.{Loops}
 use Rattle.plan.specs.declared.exclusive.Loops.the-variants.{Fine, Faulty}
@@ -17,6 +18,10 @@ use Rattle.plan.specs.declared.exclusive.Loops.the-variants.{Fine, Fault
 abbrev pub loops-say : Loops → Answer (Unit {0})
 loops-say Fine = good tt
 loops-say (Faulty at) = refused body-not-exclusive at
+
+-- The first refusal of two answers.
+abbrev pub first-refusal : Answer (Unit {0}) → Answer (Unit {0}) → Answer (Unit {0})
+first-refusal a b = a >> b
 
 -- 1 for an exclusive expression, 0 for another.
 abbrev pub bit : Bool → ℕ
@@ -42,11 +47,6 @@ unfoldable pub joined : (ℕ → List ℕ) → ℕ → ℕ → List ℕ
 joined f k zero = []
 joined f k (suc count) = f k ++ joined f (k + 1) count
 
--- The first offset is refused, and the rest is asked only where there is none.
-abbrev pub first-of : List ℕ → Answer (Unit {0}) → Answer (Unit {0})
-first-of [] rest = rest
-first-of (at ∷ ats) rest = refused body-not-exclusive at
-
 -- The body of each loop below k comes after it.
 abbrev pub Ordered : List ℕ → ℕ → Type 0
 Ordered rows k = (m : ℕ) → m < k → tag-at rows m ≡ 5 → m < after-at rows (m + 1)
@@ -55,4 +55,4 @@ Ordered rows k = (m : ℕ) → m < k → tag-at rows m ≡ 5 → m < after-at ro
 pub record Judged (rows : List ℕ) (k : ℕ) (before after : List ℕ) (rest answer : Answer (Unit {0})) : Type 0 where
   pub kept : (m : ℕ) → k ≤ m → getD after m 0 ≡ getD before m 0
   pub known : (count : ℕ) → Known rows count 1 exclusive-bit k before → Known rows count 1 exclusive-bit 0 after
-  pub first : Ordered rows k → answer ≡ first-of (joined (fault-by rows after) 0 k) rest
+  pub first : Ordered rows k → answer ≡ (no-fault (joined (fault-by rows after) 0 k) >> rest)

@@ -1,12 +1,12 @@
 // 01, "Box construction": "A loop body must be exclusive". Every node of the node table is judged, the node number falling, so that a
 // node's operands, whose numbers are higher, are judged before it; the loop found last is the first of the plan.
 ghost use mathlib.Core.Path.{_≡_};
-ghost use Prim.Native.Nat.{ℕ, _+_, _*_, _≤_};
+ghost use Prim.Native.Nat.{_+_, _*_, _≤_};
 ghost use lib.ListN.{getD, replicate};
 ghost use Rattle.algebra.specs.Expr.{Expr};
-ghost use Rattle.plan.specs.Loops.{check-loops};
+ghost use Rattle.plan.specs.Loops.{no-fault, check-loops};
 ghost use Rattle.plan.specs.Table.{Table};
-ghost use Rattle.plan.specs.Judged.{loops-say, first-of, exclusive-by, fault-by, Judged};
+ghost use Rattle.plan.specs.Judged.{loops-say, first-refusal, exclusive-by, fault-by, Judged};
 
 // The tags that are asked for, and the numbers of a row.
 const CHOICE: usize = 3;
@@ -71,32 +71,43 @@ fn is_exclusive(rows: &[u16], k: usize, exclusive: &[u16]) -> u16
     1
 }
 
-// The loops from node k on, where those after it are told.
-fn with_node(rows: &[u16], k: usize, exclusive: &[u16], after: Loops) -> Loops
+// What node k tells of itself: its offset, where it is a loop whose body is not exclusive.
+fn fault_of(rows: &[u16], k: usize, exclusive: &[u16]) -> Loops
     requires { ⌜ k ≤ 65535 ⌝ }
-    ensures { λ r. ⌜ loops-say r ≡ first-of (fault-by (now (rows .entry)) (now (exclusive .entry)) k) (loops-say after) ⌝ }
+    ensures { λ r. ⌜ loops-say r ≡ no-fault (fault-by (now (rows .entry)) (now (exclusive .entry)) k) ⌝ }
 {
     let tag = row_number(rows, k, TAG);
     if tag == LOOP {
         if number_at(exclusive, row_number(rows, k + 1, AFTER)) == 0 {
             return Loops::Faulty(row_number(rows, k, AT));
         }
-        return after;
+        return Loops::Fine;
     }
-    after
+    Loops::Fine
+}
+
+// The first fault of two answers.
+fn first_of(a: Loops, b: Loops) -> Loops
+    ensures { λ r. ⌜ loops-say r ≡ first-refusal (loops-say a) (loops-say b) ⌝ }
+{
+    match a {
+        Loops::Fine => b,
+        Loops::Faulty(at) => Loops::Faulty(at),
+    }
 }
 
 // Judges the nodes below k, where those from k on are judged and their loops told.
-fn judge(rows: &[u16], k: usize, exclusive: &mut [u16; 1366], after: Loops) -> Loops
+fn judge(rows: &[u16], k: usize, exclusive: &mut [u16; 1366], later: Loops) -> Loops
     requires { ⌜ k ≤ 1366 ⌝ }
-    ensures { λ r. ⌜ Judged (now (rows .entry)) k (now (exclusive .entry)) (now (exclusive .exit)) (loops-say after) (loops-say r) ⌝ }
+    ensures { λ r. ⌜ Judged (now (rows .entry)) k (now (exclusive .entry)) (now (exclusive .exit)) (loops-say later) (loops-say r) ⌝ }
 {
     if k == 0 {
-        return after;
+        return later;
     }
     let node = k - 1;
     exclusive[node] = is_exclusive(rows, node, exclusive);
-    let found = with_node(rows, node, exclusive, after);
+    let own = fault_of(rows, node, exclusive);
+    let found = first_of(own, later);
     judge(rows, node, exclusive, found)
 }
 

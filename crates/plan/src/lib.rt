@@ -2,7 +2,7 @@
 pub mod exclusive;
 
 ghost use mathlib.Core.Path.{_≡_};
-ghost use Prim.Native.Nat.{_+_, _*_, _≤_, _<_};
+ghost use Prim.Native.Nat.{_+_, _*_};
 ghost use lib.ListN.{length};
 ghost use Rattle.field.specs.Field.{length-of, body-of};
 ghost use Rattle.plan.specs.Reading.{action-tag, scope-tag, read-body, read-operands, read-field, read-plan};
@@ -11,6 +11,13 @@ ghost use Rattle.plan.specs.Inner.{HeadFits, HeadIs, Inside, field-with,
 
 // A node takes 3 bytes at least, so a plan has at most 1,365 of them; a row has six numbers.
 pub const ROWS: usize = 6 * 1366;
+
+// The tags of 01's table that are told apart in code; 2, 3 and 4 are a sequence, a choice and a parallel.
+const ACTION_TAG: u8 = 1;
+
+const LOOP_TAG: u8 = 5;
+
+const SCOPE_TAG: u8 = 6;
 
 // What the tests of one field say before its operands are read: the refusal with what it carries; the label of an action; or, of an
 // operator, its tag, its own byte (0 if it has none), how many operands are due, and the part of the field that they stand in.
@@ -84,7 +91,7 @@ fn look_scope(s: &[u8], at: usize, len: usize, actions: usize) -> Head
         return Head::Refused(field::WRONG_LABEL, at);
     }
     Head::Operator {
-        tag: 6,
+        tag: SCOPE_TAG,
         byte: name,
         members: 1,
         start: 4,
@@ -105,21 +112,21 @@ fn look(s: &[u8], at: usize, actions: usize) -> Head
     if tag == 0 {
         return Head::Refused(field::UNKNOWN_TAG, at);
     }
-    if 6 < tag {
+    if SCOPE_TAG < tag {
         return Head::Refused(field::UNKNOWN_TAG, at);
     }
     let len = s[1] as usize * 256 + s[2] as usize;
     if s.len() - 3 < len {
         return Head::Refused(field::FIELD_CUT, at);
     }
-    if tag == 1 {
+    if tag == ACTION_TAG {
         return look_action(s, at, len, actions);
     }
-    if tag == 6 {
+    if tag == SCOPE_TAG {
         return look_scope(s, at, len, actions);
     }
     // A loop has three operands, and a sequence, a choice and a parallel have two.
-    let members = if tag == 5 { 3 } else { 2 };
+    let members = if tag == LOOP_TAG { 3 } else { 2 };
     Head::Operator {
         tag: tag,
         byte: 0,
@@ -172,7 +179,7 @@ fn read_field(
     match look(s, at, actions) {
         Head::Refused(number, carried) => FieldRead::Refused(number, carried),
         Head::Action(label) => {
-            put_row(rows, node, 1, label, 0, node + 1, actions, at);
+            put_row(rows, node, ACTION_TAG, label, 0, node + 1, actions, at);
             FieldRead::Read {
                 used: 4,
                 nodes: node + 1,

@@ -155,12 +155,12 @@ field-returns-5 t c =
 operands-returns : (t : ℕ) → operands-lts.Need-returns (operands-claims t) (operands-at t) operands.Post
 operands-returns t c =
     let a = c .before .before .before .args in
-    (tt, operands-left-over (read-field (a .levels)) (a .members) (a .s .now) (a .at) (a .actions) (a .node) (a .rows .now) (a .rows .now) (c .before .if1 .taken) (c .if2 .taken))
+    (tt, operands-left-over (read-field (a .levels)) (a .members) (a .s .now) (a .at) (a .actions) (a .node) (a .rows .now) (a .rows .now) (c .before .if1 .taken) (omega arith))
 
 operands-returns-2 : (t : ℕ) → operands-lts.Need-returns-2 (operands-claims t) (operands-at t) operands.Post
 operands-returns-2 t c =
     let a = c .before .before .before .args in
-    (omega arith, operands-done (read-field (a .levels)) (a .members) (a .s .now) (a .at) (a .actions) (a .node) (a .rows .now) (c .before .if1 .taken) (c .if2 .left))
+    (omega arith, operands-done (read-field (a .levels)) (a .members) (a .s .now) (a .at) (a .actions) (a .node) (a .rows .now) (c .before .if1 .taken) (omega arith))
 
 operands-returns-3 : (t : ℕ) → operands-lts.Need-returns-3 (operands-claims t) (operands-at t) operands.Post
 operands-returns-3 t c =

@@ -1,9 +1,6 @@
 -- `plan::look` meets its contract: each way out is a law of `Heads`, and a body's own tests say of the field what they say of the body.
 -- Assumes nothing.
-use Prim.Native.Nat.{_+_, _-_, _≤_}
-use mathlib.Core.Path.{_≡_, refl}
 use native.Mathlib.Omega.{arith}
-use lib.ListN.{length}
 use borrow.Author.Needs.{needs}
 use Rattle.plan.specs.Reading.{action-tag, scope-tag}
 use Rattle.plan.proofs.Heads.{header-cut, tag-zero, tag-high, length-cut, body-head, loop-head, two-operands-head}
@@ -32,19 +29,19 @@ shared-slice-read-len : tie.Need-shared-slice-read-len
 shared-slice-read-len c = search needs
 
 cast-len : tie.Need-cast-len
-cast-len c = omega (arith, c .shared-slice-known3 .given 1)
+cast-len c = omega (arith, c .shared-slice-known3 .given 1, c .shared-slice-known3 .given 2)
 
 mul-len : tie.Need-mul-len
-mul-len c = omega (arith, c .shared-slice-known3 .given 1)
+mul-len c = omega (arith, c .shared-slice-known3 .given 1, c .shared-slice-known3 .given 2)
 
 shared-slice-read-len-2 : tie.Need-shared-slice-read-len-2
 shared-slice-read-len-2 c = search needs
 
 cast-len-2 : tie.Need-cast-len-2
-cast-len-2 c = omega (arith, c .shared-slice-known4 .given 2)
+cast-len-2 c = omega (arith, c .shared-slice-known4 .given 1, c .shared-slice-known4 .given 2)
 
 add-len : tie.Need-add-len
-add-len c = omega (arith, c .before .shared-slice-known3 .given 1, c .shared-slice-known4 .given 2)
+add-len c = omega (arith, c .shared-slice-known4 .given 1, c .shared-slice-known4 .given 2)
 
 sub-if4 : tie.Need-sub-if4
 sub-if4 c = search needs
@@ -53,7 +50,7 @@ returns-4 : tie.Need-returns-4
 returns-4 c =
     let b = c .before .before .before .before in
     let a = b .before .before .before .before .args in
-    (tt, length-cut (a .s .now) (a .at) (a .actions) (b .before .before .if1 .left) (b .if2 .left) (c .before .before .before .if3 .left) (c .if4 .taken))
+    (tt, length-cut (a .s .now) (a .at) (a .actions) (b .before .before .if1 .left) (b .if2 .left) (c .before .before .before .if3 .left) (omega arith))
 
 look-action-requires : tie.Need-look-action-requires
 look-action-requires c κs = search needs

@@ -17,7 +17,7 @@ returns-2 : tie.Need-returns-2
 returns-2 c =
     let b = c .before .before .before in
     let a = b .args in
-    (tt, λ read. action-wrong-label (a .s .now) (a .at) (a .len) (a .actions) (b .pre) read (c .before .before .if1 .left) (c .if2 .taken))
+    (tt, λ read. action-wrong-label (a .s .now) (a .at) (a .len) (a .actions) (b .pre) read (c .before .before .if1 .left) (omega arith))
 
 returns-3 : tie.Need-returns-3
 returns-3 c =
@@ -26,7 +26,7 @@ returns-3 c =
       tt,
       λ read.
           action-beyond-limit (a .s .now) (a .at) (a .len) (a .actions) (b .pre) read (c .before .before .before .if1 .left) (c .before .if2 .left)
-          (omega (arith, c .before .before .shared-slice-known .given 3)) (c .if3 .taken),
+          (omega (arith, c .before .before .shared-slice-known .given 3)) (omega arith),
     )
 
 returns-4 : tie.Need-returns-4
@@ -36,7 +36,7 @@ returns-4 c =
       omega arith,
       λ read.
           action-read (a .s .now) (a .at) (a .len) (a .actions) (b .pre) read (c .before .before .before .if1 .left) (c .before .if2 .left)
-          (omega (arith, c .before .before .shared-slice-known .given 3)) (c .if3 .left),
+          (omega (arith, c .before .before .shared-slice-known .given 3)) (omega arith),
     )
 
 pub look-action-spec : {M : Type 1} → statement M

@@ -23,7 +23,7 @@ returns-3 : tie.Need-returns-3
 returns-3 c =
     let b = c .before .before .before .before in
     let a = b .args in
-    (tt, scope-high (a .s .now) (a .at) (a .len) (a .actions) (b .pre) (c .before .before .before .if1 .left) (c .if3 .taken))
+    (tt, scope-high (a .s .now) (a .at) (a .len) (a .actions) (b .pre) (c .before .before .before .if1 .left) (omega arith))
 
 sub-t9 : tie.Need-sub-t9
 sub-t9 c = search needs
@@ -33,7 +33,7 @@ returns-4 c =
     let b = c .before .before .before .before in
     let a = b .args in (
       omega arith,
-      scope-read (a .s .now) (a .at) (a .len) (a .actions) (b .pre) (c .before .before .before .if1 .left) (c .before .if2 .left) (c .if3 .left),
+      scope-read (a .s .now) (a .at) (a .len) (a .actions) (b .pre) (c .before .before .before .if1 .left) (c .before .if2 .left) (omega arith),
     )
 
 pub look-scope-spec : {M : Type 1} → statement M

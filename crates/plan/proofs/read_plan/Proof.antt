@@ -1,8 +1,10 @@
 -- `plan::read_plan` meets its contract: `read_operands` at the whole plan, one operand and no node yet, by the laws of `WholePlan`.
 -- The length of the rows is known from their loan as a slice. Assumes nothing.
+use Prim.Native.Nat.{_*_}
 use mathlib.Core.Path.{_≡_}
 use lib.ListN.{length}
 use borrow.Author.Needs.{needs}
+use Rattle.plan.specs.Inner.{row-limit}
 use Rattle.plan.proofs.WholePlan.{plan-over-limit, plan-refused, plan-accepted}
 use Rattle.plan.proofs.read_plan.Statement.{statement}
 use Rattle.plan.proofs.read_plan.Tie as tie
@@ -37,7 +39,7 @@ returns-3 c =
     let o = c .before .before .before .read-operands in
     let b = c .before .before .before .before .before .before .before .before in
     let a = b .before .before .args in
-    let l : length (a .rows .now) ≡ 8196 = search needs in
+    let l : length (a .rows .now) ≡ 6 * row-limit = search needs in
     plan-accepted (a .plan .now) (a .rows .now) (o .last .1 .1 .1 .1 .1 .1 .0) (b .if1 .left) (o .result) (o .ensures .1)
     (c .before .nodes .given .0 .0) (c .before .nodes .given .0 .1 .0) (c .before .nodes .given .1) (o .ensures .0) l
 

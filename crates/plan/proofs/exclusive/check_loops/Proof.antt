@@ -5,14 +5,5 @@ use borrow.Author.Needs.{needs}
 use Rattle.plan.proofs.exclusive.check_loops.Statement.{statement}
 use Rattle.plan.proofs.exclusive.check_loops.Tie as tie
 
-none-judged-requires : tie.Need-none-judged-requires
-none-judged-requires c κs = search needs
-
-judge-requires : tie.Need-judge-requires
-judge-requires c κs = search needs
-
-returns : tie.Need-returns
-returns c = all-judged (c .judge .ensures)
-
 pub check-loops-spec : {M : Type 1} → statement M
-check-loops-spec = tie.close (tie.spec none-judged-requires judge-requires returns)
+check-loops-spec = tie.close (tie.spec (λ c κs. search needs) (λ c κs. search needs) (λ c. all-judged (c .judge .ensures)))

@@ -1,0 +1,169 @@
+// 01, "Box construction": how many entries, internals and exits each node of the node table has, cut off at one above the limit of places.
+// The node number falls, so that a node's operands, whose numbers are higher, are counted before it.
+use plan::exclusive::AFTER;
+use plan::exclusive::TAG;
+use plan::exclusive::number_at;
+use plan::exclusive::row_number;
+use plan::exclusive::wide;
+ghost use mathlib.Core.Path.{_≡_};
+ghost use mathlib.Core.List.{_++_};
+ghost use Prim.Native.Nat.{_*_, _≤_, _<_};
+ghost use lib.ListN.{drop};
+ghost use Rattle.field.specs.Limits.{place-limit};
+ghost use Rattle.algebra.specs.Expr.{Expr};
+ghost use Rattle.plan.specs.Table.{Table};
+ghost use Rattle.boxes.specs.Counts.{cut};
+ghost use Rattle.boxes.specs.NodeCounts.{node-counts};
+ghost use Rattle.boxes.specs.Counted.{Small, counts-at, sequence-counts, choice-counts, parallel-counts, loop-counts, counts-by, stored, Counted};
+
+const ACTION: usize = 1;
+
+const SEQUENCE: usize = 2;
+
+const CHOICE: usize = 3;
+
+const PARALLEL: usize = 4;
+
+const SCOPE: usize = 6;
+
+const PLACE_LIMIT: usize = 2048;
+
+// How many places of each kind a box has.
+pub struct Counts {
+    entries: usize,
+    internals: usize,
+    exits: usize,
+}
+
+// At most one above the limit.
+fn cut_off(n: usize) -> usize
+    ensures { λ r. ⌜ (r ≡ cut place-limit n) × (r ≤ 65535) ⌝ }
+{
+    if n <= PLACE_LIMIT { n } else { PLACE_LIMIT + 1 }
+}
+
+// The counts of node k, which has three numbers.
+fn counts_at(counts: &[u16], k: usize) -> Counts
+    requires { ⌜ k ≤ 65536 ⌝ }
+    ensures { λ r. ⌜ (r ≡ counts-at (now (counts .entry)) k) × Small r ⌝ }
+{
+    Counts {
+        entries: wide(number_at(counts, 3 * k)),
+        internals: wide(number_at(counts, 3 * k + 1)),
+        exits: wide(number_at(counts, 3 * k + 2)),
+    }
+}
+
+// "E;F: entries of E; internals of E, of F, then exits(E)×entries(F); exits of F."
+fn of_sequence(e: Counts, f: Counts) -> Counts
+    requires { ⌜ Small e × Small f ⌝ }
+    ensures { λ r. ⌜ (r ≡ sequence-counts e f) × Small r ⌝ }
+{
+    Counts {
+        entries: e.entries,
+        internals: cut_off(e.internals + (f.internals + e.exits * f.entries)),
+        exits: f.exits,
+    }
+}
+
+// "E□F: entries(E)×entries(F); internals joined; exits(E)×exits(F)."
+fn of_choice(e: Counts, f: Counts) -> Counts
+    requires { ⌜ Small e × Small f ⌝ }
+    ensures { λ r. ⌜ (r ≡ choice-counts e f) × Small r ⌝ }
+{
+    Counts {
+        entries: cut_off(e.entries * f.entries),
+        internals: cut_off(e.internals + f.internals),
+        exits: cut_off(e.exits * f.exits),
+    }
+}
+
+// "E‖F: each list joined, E's first."
+fn of_parallel(e: Counts, f: Counts) -> Counts
+    requires { ⌜ Small e × Small f ⌝ }
+    ensures { λ r. ⌜ (r ≡ parallel-counts e f) × Small r ⌝ }
+{
+    Counts {
+        entries: cut_off(e.entries + f.entries),
+        internals: cut_off(e.internals + f.internals),
+        exits: cut_off(e.exits + f.exits),
+    }
+}
+
+// "Loop: entries of E; internals of E, F, G, then exits(E)×exits(F)×entries(F)×entries(G); exits of G." A product of four numbers of
+// 16 bits and the three sums fit 64 bits.
+fn of_loop(e: Counts, f: Counts, g: Counts) -> Counts
+    requires { ⌜ Small e × Small f × Small g ⌝ }
+    ensures { λ r. ⌜ (r ≡ loop-counts e f g) × Small r ⌝ }
+{
+    let places = e.exits * f.exits * (f.entries * g.entries);
+    Counts {
+        entries: e.entries,
+        internals: cut_off(e.internals + (f.internals + (g.internals + places))),
+        exits: g.exits,
+    }
+}
+
+// The counts of node k from those of its operands.
+fn counts_of(rows: &[u16], k: usize, counts: &[u16]) -> Counts
+    requires { ⌜ k ≤ 65535 ⌝ }
+    ensures { λ r. ⌜ (r ≡ counts-by (now (rows .entry)) (now (counts .entry)) k) × Small r ⌝ }
+{
+    let tag = row_number(rows, k, TAG);
+    if tag == ACTION {
+        return Counts {
+            entries: 1,
+            internals: 0,
+            exits: 1,
+        };
+    }
+    let e = counts_at(counts, k + 1);
+    if tag == SCOPE {
+        return e;
+    }
+    let second = row_number(rows, k + 1, AFTER);
+    let f = counts_at(counts, second);
+    if tag == SEQUENCE {
+        return of_sequence(e, f);
+    }
+    if tag == CHOICE {
+        return of_choice(e, f);
+    }
+    if tag == PARALLEL {
+        return of_parallel(e, f);
+    }
+    let third = row_number(rows, second, AFTER);
+    of_loop(e, f, counts_at(counts, third))
+}
+
+// Writes the counts of node k.
+fn store(counts: &mut [u16; 4098], k: usize, c: Counts)
+    requires { ⌜ (k < 1366) × Small c ⌝ }
+    ensures { λ _. ⌜ now (counts .exit) ≡ stored (now (counts .entry)) k c ⌝ }
+{
+    counts[3 * k] = c.entries as u16;
+    counts[3 * k + 1] = c.internals as u16;
+    counts[3 * k + 2] = c.exits as u16;
+}
+
+// Counts the nodes below k, where those from k on are counted.
+fn count(rows: &[u16], k: usize, counts: &mut [u16; 4098])
+    requires { ⌜ k ≤ 1366 ⌝ }
+    ensures { λ _. ⌜ Counted (now (rows .entry)) k (now (counts .entry)) (now (counts .exit)) ⌝ }
+{
+    if k == 0 {
+        return;
+    }
+    let node = k - 1;
+    let c = counts_of(rows, node, counts);
+    store(counts, node, c);
+    count(rows, node, counts);
+}
+
+// The counts of every node of the plan whose node table the rows begin with; what lies behind them is not written.
+pub fn count_places(rows: &[u16; 8196], nodes: usize, counts: &mut [u16; 4098])
+    requires { ⌜ nodes ≤ 1366 ⌝ }
+    ensures { λ _. ⌜ ((E : Expr) → Table (now (rows .entry)) nodes E → now (counts .exit) ≡ node-counts E ++ drop (3 * nodes) (now (counts .entry))) ⌝ }
+{
+    count(rows, nodes, counts);
+}
