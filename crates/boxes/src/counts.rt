@@ -1,10 +1,15 @@
 // 01, "Box construction": how many entries, internals and exits each node of the node table has, cut off at one above the limit of places.
 // The node number falls, so that a node's operands, whose numbers are higher, are counted before it.
-use plan::exclusive::AFTER;
-use plan::exclusive::TAG;
 use plan::exclusive::number_at;
 use plan::exclusive::row_number;
 use plan::exclusive::wide;
+use plan::tags::ACTION;
+use plan::tags::AFTER;
+use plan::tags::CHOICE;
+use plan::tags::PARALLEL;
+use plan::tags::SCOPE;
+use plan::tags::SEQUENCE;
+use plan::tags::TAG;
 ghost use mathlib.Core.Path.{_≡_};
 ghost use mathlib.Core.List.{_++_};
 ghost use Prim.Native.Nat.{_*_, _≤_, _<_};
@@ -15,18 +20,6 @@ ghost use Rattle.plan.specs.Table.{Table};
 ghost use Rattle.boxes.specs.Counts.{cut};
 ghost use Rattle.boxes.specs.NodeCounts.{node-counts};
 ghost use Rattle.boxes.specs.Counted.{Small, counts-at, sequence-counts, choice-counts, parallel-counts, loop-counts, counts-by, stored, Counted};
-
-const ACTION: usize = 1;
-
-const SEQUENCE: usize = 2;
-
-const CHOICE: usize = 3;
-
-const PARALLEL: usize = 4;
-
-const SCOPE: usize = 6;
-
-const PLACE_LIMIT: usize = 2048;
 
 // How many places of each kind a box has.
 pub struct Counts {
@@ -39,7 +32,11 @@ pub struct Counts {
 fn cut_off(n: usize) -> usize
     ensures { λ r. ⌜ (r ≡ cut place-limit n) × (r ≤ 65535) ⌝ }
 {
-    if n <= PLACE_LIMIT { n } else { PLACE_LIMIT + 1 }
+    if n <= field::PLACE_LIMIT {
+        n
+    } else {
+        field::PLACE_LIMIT + 1
+    }
 }
 
 // The counts of node k, which has three numbers.

@@ -1,5 +1,12 @@
 // 01, "Box construction": "A loop body must be exclusive". Every node of the node table is judged, the node number falling, so that a
 // node's operands, whose numbers are higher, are judged before it; the loop found last is the first of the plan.
+use crate::tags::AFTER;
+use crate::tags::AT;
+use crate::tags::CHOICE;
+use crate::tags::LOOP;
+use crate::tags::PARALLEL;
+use crate::tags::SCOPE;
+use crate::tags::TAG;
 ghost use mathlib.Core.Path.{_≡_};
 ghost use Prim.Native.Nat.{_+_, _*_, _≤_};
 ghost use lib.ListN.{getD, replicate};
@@ -7,21 +14,6 @@ ghost use Rattle.algebra.specs.Expr.{Expr};
 ghost use Rattle.plan.specs.Loops.{no-fault, check-loops};
 ghost use Rattle.plan.specs.Table.{Table};
 ghost use Rattle.plan.specs.Judged.{loops-say, first-refusal, exclusive-by, fault-by, Judged};
-
-// The tags that are asked for, and the numbers of a row.
-const CHOICE: usize = 3;
-
-const PARALLEL: usize = 4;
-
-const LOOP: usize = 5;
-
-const SCOPE: usize = 6;
-
-pub const TAG: usize = 0;
-
-pub const AFTER: usize = 3;
-
-const AT: usize = 5;
 
 // Every loop's body is exclusive, or the offset of the first loop whose body is not.
 pub enum Loops {

@@ -1,5 +1,6 @@
 // Reads the bytes of a plan into a table of nodes, a row for each field.
 pub mod exclusive;
+pub mod tags;
 
 ghost use mathlib.Core.Path.{_≡_};
 ghost use Prim.Native.Nat.{_+_, _*_};
