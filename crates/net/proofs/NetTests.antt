@@ -2,13 +2,12 @@
 -- True because the pass over the rows tests all that is asked of single transitions, and behind it the pass over the chains tests the pairs.
 use Prim.Native.Nat.{ℕ, _*_, _≤_}
 use mathlib.Core.Path.{_≡_, refl, sym, ap, _∙_}
-use mathlib.Core.List.{List}
 use mathlib.Core.Bool.{Bool, true, false, not, _&&_}
 use borrow.Author.Tests.{not-true, not-false}
 use lib.ListN.{length, take}
-use lib.Dec.{T, leb, leb→le}
+use lib.Dec.{leb, leb→le}
 use Rattle.field.specs.Lists.{all}
-use Rattle.field.proofs.Tests.{and-parts, true-T}
+use Rattle.field.proofs.Tests.{and-parts, true-T, T-true}
 use Rattle.net.specs.Tables.{Tables, transitions-in}
 use Rattle.net.specs.Check.{counts-fit, tables-reach, kinds-ordered, lists-rise, starts-meet, codes-fit, pairs-differ, is-net}
 use Rattle.net.specs.Passes.{rows-pass, pairs-pass}
@@ -59,3 +58,16 @@ module _ (tables : Tables) where
   unfolding is-net
   net-tests =
       ap (λ (b : Bool). counts-fit tables && (tables-reach tables && (kinds-ordered (take (tables .places) (tables .kinds)) && b))) rows-then-pairs
+
+  -- What a net says of its counts and of the tables that it is lent in.
+  pub net-counts : is-net tables ≡ true → (tables .places ≤ 2048) × (tables .transitions ≤ 1024) × (tables .arc-count ≤ 16384)
+  unfolding is-net
+  net-counts e =
+      three-fit (tables .places) 2048 (tables .transitions) 1024 (tables .arc-count) 16384 (T-true (counts-fit tables) (and-parts (counts-fit tables) _ (true-T (is-net tables) e) .0))
+
+  pub net-reaches : is-net tables ≡ true
+      → (tables .places ≤ length (tables .kinds)) × (6 * tables .transitions ≤ length (tables .rows)) × (tables .arc-count ≤ length (tables .arcs))
+  unfolding is-net
+  net-reaches e =
+      three-fit (tables .places) (length (tables .kinds)) (6 * tables .transitions) (length (tables .rows)) (tables .arc-count) (length (tables .arcs))
+      (T-true (tables-reach tables) (and-parts (tables-reach tables) _ (and-parts (counts-fit tables) _ (true-T (is-net tables) e) .1) .0))

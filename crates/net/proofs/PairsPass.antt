@@ -2,20 +2,20 @@
 -- True because two transitions have the same item exactly if they have the same first action and the same second, or none both.
 use Prim.Native.Nat.{ℕ, zero, suc, _+_, _≤_, _<_, min}
 use mathlib.Core.Path.{_≡_, refl, sym, ap, ap₂, subst, subst⁻¹, _∙_}
-use mathlib.Core.List.{List, [], _∷_, map}
+use mathlib.Core.List.{List, map}
 use mathlib.Core.Bool.{Bool, true, false, cond, not, _&&_, _||_}
 use mathlib.Core.Logic.{_⊎_, inl, inr, ⊎-elim}
 use native.Mathlib.Omega.{arith}
-use borrow.Author.Tests.{eqb-true, eqb-false, eq-eqb, ne-eqb, leb-true}
+use borrow.Author.Tests.{eqb-true, eqb-false, eq-eqb, ne-eqb}
 use lib.Dec.{T, eqb, leb, eqb→eq, leb→le}
 use Rattle.field.specs.Lists.{all}
-use Rattle.field.proofs.Tests.{and-parts, true-T, T-true, or-cases}
+use Rattle.field.proofs.Tests.{and-parts, or-cases}
 use Rattle.field.proofs.Alls.{and-assoc}
-use Rattle.algebra.specs.Item.{Item, one, two, same-item}
+use Rattle.algebra.specs.Item.{one, two, same-item}
 use Rattle.algebra.specs.Net.{Transition}
 use Rattle.net.specs.Tables.{Tables, number, none, item-of, transition-at, transitions-from}
 use Rattle.net.specs.Check.{codes-fit, pairs-differ}
-use Rattle.net.specs.Chains.{in-row, keep, with-first}
+use Rattle.net.specs.Chains.{keep, with-first}
 use Rattle.net.specs.Passes.{codes-pass, second-or-256, differ, seconds-differ, each, pairs-pass}
 use Rattle.net.proofs.RowsPass.{codes-are}
 

@@ -2,18 +2,17 @@
 -- Row by row: a row's arcs start where they must, or the starts do not meet; and starts that meet never lie behind the arc count.
 use Prim.Native.Nat.{ℕ, zero, suc, _+_, _≤_}
 use mathlib.Core.Path.{_≡_, refl, sym, ap, ap₂, _∙_}
-use mathlib.Core.List.{List}
 use mathlib.Core.Bool.{Bool, true, false, cond, not, _&&_, _||_}
 use native.Mathlib.Omega.{arith}
 use borrow.Author.Tests.{eqb-true, le-leb}
-use lib.ListN.{length, take, drop}
+use lib.ListN.{take, drop}
 use lib.Dec.{T, eqb, leb, eqb→eq}
 use Rattle.field.specs.Lists.{all}
 use Rattle.field.proofs.Tests.{and-parts, true-T}
 use Rattle.field.proofs.Alls.{and-assoc}
 use Rattle.algebra.specs.Item.{one, two}
 use Rattle.net.specs.Tables.{Tables, number, none, item-of, transition-at, transitions-from}
-use Rattle.net.specs.Check.{rising, lists-rise, starts-meet, actions-fit, codes-fit}
+use Rattle.net.specs.Check.{lists-rise, starts-meet, actions-fit, codes-fit}
 use Rattle.net.specs.Passes.{codes-pass, list-passes, row-end, row-passes, rows-pass}
 
 and-true : (a : Bool) → a ≡ (a && true)

@@ -1,10 +1,9 @@
 -- Stamps tell which numbers of a list came before: a list has no number twice where none of its numbers is stamped as it is met, and each is then stamped.
 -- True because a number is stamped after a turn exactly if it was before or is the one just met.
 use Prim.Native.Nat.{ℕ, zero, suc, _+_, _-_, _≤_, _<_}
-use mathlib.Core.Path.{_≡_, refl, sym, ap, ap₂, subst, _∙_}
+use mathlib.Core.Path.{_≡_, refl, sym, ap, ap₂, _∙_}
 use mathlib.Core.List.{List, [], _∷_, map}
 use mathlib.Core.Bool.{Bool, true, false, not, _&&_}
-use native.Mathlib.Nat.{le-refl}
 use native.Mathlib.Numerals.{add-one}
 use native.Mathlib.Omega.{arith}
 use borrow.Author.Tests.{eqb-true, eqb-false, eq-eqb, ne-eqb}
@@ -72,12 +71,13 @@ none-yet stamp stamps small (k ∷ ks) = ap₂ _&&_ (ap not (ne-eqb (getD stamps
 pub stamp-start : (stamp : ℕ) (stamps : List ℕ) → ((j : ℕ) → getD stamps j 0 < stamp) → (ks : List ℕ) → differ ks ≡ left-to-test stamp stamps ks
 stamp-start stamp stamps small ks = ap (λ (b : Bool). b && differ ks) (sym (none-yet stamp stamps small ks))
 
-pub stamps-stay : (top k : ℕ) (stamps : List ℕ) → ((j : ℕ) → getD stamps j 0 ≤ top) → (j : ℕ) → getD (set stamps k top) j 0 ≤ top
-stamps-stay top k [] small j = small j
-stamps-stay top zero (x ∷ stamps) small zero = le-refl top
-stamps-stay top zero (x ∷ stamps) small (suc j) = small (suc j)
-stamps-stay top (suc k) (x ∷ stamps) small zero = small zero
-stamps-stay top (suc k) (x ∷ stamps) small (suc j) = stamps-stay top k stamps (λ m. small (suc m)) j
+-- A stamp that is not above a number leaves all stamps not above it.
+pub stamps-stay : (top k stamp : ℕ) (stamps : List ℕ) → stamp ≤ top → ((j : ℕ) → getD stamps j 0 ≤ top) → (j : ℕ) → getD (set stamps k stamp) j 0 ≤ top
+stamps-stay top k stamp [] h small j = small j
+stamps-stay top zero stamp (x ∷ stamps) h small zero = h
+stamps-stay top zero stamp (x ∷ stamps) h small (suc j) = small (suc j)
+stamps-stay top (suc k) stamp (x ∷ stamps) h small zero = small zero
+stamps-stay top (suc k) stamp (x ∷ stamps) h small (suc j) = stamps-stay top k stamp stamps h (λ m. small (suc m)) j
 
 -- The second actions that lie ahead of a walk.
 abbrev pub seconds-ahead : List ℕ → ℕ → ℕ → ℕ → List ℕ

@@ -1,6 +1,6 @@
 -- A turn and the end of each loop that reads one list: the test of the rest of the list is the test of its head and the test of what follows.
 -- True by the clauses of the tests, at the element where the loop stands.
-use Prim.Native.Nat.{ℕ, zero, suc, _+_, _-_, _≤_, _<_}
+use Prim.Native.Nat.{ℕ, _+_, _-_, _≤_, _<_}
 use mathlib.Core.Path.{_≡_, refl, sym, ap, _∙_}
 use mathlib.Core.List.{List, [], _∷_}
 use mathlib.Core.Bool.{Bool, true, false, _&&_}

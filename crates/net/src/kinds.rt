@@ -1,6 +1,5 @@
 // The kinds of a net's places: 1s (entries), then 2s (internals), then 3s (exits), with a 1 and a 3.
 ghost use mathlib.Core.Path.{_≡_};
-ghost use lib.ListN.{length};
 ghost use Rattle.net.specs.Check.{kinds-after, kinds-ordered};
 
 // After a 1 no kind is smaller than the one before it or above 3, and the last is 3.

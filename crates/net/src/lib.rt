@@ -3,9 +3,10 @@
 ghost use mathlib.Core.Path.{_≡_};
 ghost use mathlib.Core.Bool.{_&&_};
 ghost use Prim.Native.Nat.{_*_, _≤_};
-ghost use lib.ListN.{length, take};
+ghost use lib.ListN.{length};
 ghost use lib.Dec.{leb};
-ghost use Rattle.net.specs.Check.{is-net, counts-fit, tables-reach};
+ghost use Rattle.field.specs.Limits.{place-limit, transition-limit, arc-limit};
+ghost use Rattle.net.specs.Check.{is-net};
 ghost use Rattle.net.specs.Lent.{lent};
 
 pub mod chains;
@@ -14,11 +15,21 @@ mod pairs;
 pub mod rows;
 pub mod tokens;
 
+pub use chains::index_by_first;
+pub use tokens::has_room;
+pub use tokens::is_marking;
+
+pub const PLACE_LIMIT: usize = 2048;
+
+pub const TRANSITION_LIMIT: usize = 1024;
+
+pub const ARC_LIMIT: usize = 16384;
+
 // No count is over its limit. Only behind this test may counts be multiplied: a lent count can be any number.
 fn counts_fit(places: usize, transitions: usize, arc_count: usize) -> bool
-    ensures { λ r. ⌜ r ≡ (leb places 2048 && (leb transitions 1024 && leb «arc_count» 16384)) ⌝ }
+    ensures { λ r. ⌜ r ≡ (leb places place-limit && (leb transitions transition-limit && leb «arc_count» arc-limit)) ⌝ }
 {
-    (places <= 2048) & ((transitions <= 1024) & (arc_count <= 16384))
+    (places <= PLACE_LIMIT) & ((transitions <= TRANSITION_LIMIT) & (arc_count <= ARC_LIMIT))
 }
 
 // Each table holds as much as its count says.

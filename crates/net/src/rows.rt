@@ -1,6 +1,5 @@
 // The rows of a net's transitions, six numbers each, with their lists of places in the arcs.
 ghost use mathlib.Core.Path.{_≡_};
-ghost use mathlib.Core.Bool.{_&&_};
 ghost use Prim.Native.Nat.{_+_, _*_, _<_, _≤_};
 ghost use lib.ListN.{length};
 ghost use Rattle.net.specs.Check.{rising};

@@ -5,7 +5,7 @@ use mathlib.Core.Bool.{not}
 use native.Mathlib.Omega.{arith}
 use borrow.Author.Needs.{needs}
 use borrow.Author.Tests.{eq-eqb, ne-eqb}
-use lib.ListN.{length, getD, set, length-set}
+use lib.ListN.{length, getD, length-set}
 use Rattle.net.specs.Tables.{none}
 use Rattle.net.specs.Passes.{seconds-differ}
 use Rattle.net.proofs.Turns.{goes-on, stops}
@@ -71,7 +71,7 @@ loop-again c =
     let a = c .before .before .before .before .before .before .before .before .before .args in
     let k = c .before .before .before .second in (
       length-set (l .stamps) _ _ ∙ l .inv .0,
-      stamps-stay (a .first + 1) (k .result) (l .stamps) (l .inv .1),
+      stamps-stay (a .first + 1) (k .result) _ (l .stamps) (omega arith) (l .inv .1),
       walk-goes-on (a .rows .now) (a .next .now) (a .first) (a .transitions) (omega arith) (l .t) (omega arith) (l .inv .2) .2,
       goes-on _ _ (l .inv .3)
           (seconds-turn (a .rows .now) (a .next .now) (a .transitions) (a .first) (omega arith) (a .first + 1) (l .stamps) (l .t) (omega arith) (l .inv .2) (k .result) (k .ensures .0) (omega arith))
