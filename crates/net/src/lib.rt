@@ -19,17 +19,12 @@ pub use chains::index_by_first;
 pub use tokens::has_room;
 pub use tokens::is_marking;
 
-pub const PLACE_LIMIT: usize = 2048;
-
-pub const TRANSITION_LIMIT: usize = 1024;
-
-pub const ARC_LIMIT: usize = 16384;
-
 // No count is over its limit. Only behind this test may counts be multiplied: a lent count can be any number.
 fn counts_fit(places: usize, transitions: usize, arc_count: usize) -> bool
     ensures { λ r. ⌜ r ≡ (leb places place-limit && (leb transitions transition-limit && leb «arc_count» arc-limit)) ⌝ }
 {
-    (places <= PLACE_LIMIT) & ((transitions <= TRANSITION_LIMIT) & (arc_count <= ARC_LIMIT))
+    (places <= field::PLACE_LIMIT)
+        & ((transitions <= field::TRANSITION_LIMIT) & (arc_count <= field::ARC_LIMIT))
 }
 
 // Each table holds as much as its count says.
