@@ -9,13 +9,14 @@ ghost use Rattle.field.specs.Limits.{place-limit, transition-limit, arc-limit};
 ghost use Rattle.net.specs.Check.{is-net};
 ghost use Rattle.net.specs.Lent.{lent};
 
-pub mod chains;
+mod chains;
 mod kinds;
 mod pairs;
-pub mod rows;
-pub mod tokens;
+mod rows;
+mod tokens;
 
 pub use chains::index_by_first;
+pub use rows::number;
 pub use tokens::has_room;
 pub use tokens::is_marking;
 
