@@ -1,0 +1,12 @@
+pub mod OperandByTag
+pub mod WhereActionsPart
+pub mod FlatNumbers
+pub mod JoinedPairs
+pub mod Weights
+pub mod StillToCome
+pub mod ScopeTurns
+pub mod JoinTurns
+pub mod Copies
+pub mod ScopeCloses
+pub mod ListedOperands
+pub mod WholeLists
