@@ -16,15 +16,14 @@ ghost use Rattle.plan.specs.Nodes.{node-count};
 ghost use Rattle.plan.specs.Table.{Table, Node};
 ghost use Rattle.transitions.specs.Numbers.{Fits, ListIs};
 ghost use Rattle.transitions.specs.Listing.{Lists, Operands, AllNamed, all-actions, all-transitions};
-use parting::ACTION;
-use parting::FIRST;
-use parting::SCOPE;
-use plan::exclusive::AFTER;
-use plan::exclusive::TAG;
 use plan::exclusive::number_at;
 use plan::exclusive::row_number;
-
-const BYTE: usize = 1;
+use plan::tags::ACTION;
+use plan::tags::AFTER;
+use plan::tags::BYTE;
+use plan::tags::FIRST;
+use plan::tags::SCOPE;
+use plan::tags::TAG;
 
 // There are at most 256 actions, and at most 1,024 joined pairs are wanted: three numbers to a transition.
 pub const MOST: usize = 1280;

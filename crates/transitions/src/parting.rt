@@ -5,19 +5,14 @@ ghost use Rattle.algebra.specs.Expr.{Expr};
 ghost use Rattle.algebra.specs.Transitions.{part-at-parallel};
 ghost use Rattle.plan.specs.Table.{Node};
 ghost use Rattle.transitions.specs.Parting.{operand-by};
-use plan::exclusive::AFTER;
-use plan::exclusive::TAG;
 use plan::exclusive::row_number;
-
-pub const FIRST: usize = 4;
-
-pub const ACTION: usize = 1;
-
-const PARALLEL: usize = 4;
-
-const LOOP: usize = 5;
-
-pub const SCOPE: usize = 6;
+use plan::tags::ACTION;
+use plan::tags::AFTER;
+use plan::tags::FIRST;
+use plan::tags::LOOP;
+use plan::tags::PARALLEL;
+use plan::tags::SCOPE;
+use plan::tags::TAG;
 
 // The number of the operand of node k that holds action i; of a node with no operand its own number. Past the table every number
 // is 0, so that no number behind the table is given.

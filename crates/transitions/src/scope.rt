@@ -17,8 +17,7 @@ use super::parting;
 use plan::exclusive::number_at;
 use plan::exclusive::row_number;
 use plan::exclusive::wide;
-
-const BYTE: usize = 1;
+use plan::tags::BYTE;
 
 // A number is stored at a place; past the end nothing is.
 pub fn put_number(s: &mut [u16], i: usize, x: u16)
