@@ -101,9 +101,7 @@ pub fn derive(
         Expr::Sequence(e, f) => {
             let middle = from + e.actions();
             match state {
-                State::Started => {
-                    first(derive(e, from, labels, &State::Started, items)?)
-                }
+                State::Started => first(derive(e, from, labels, &State::Started, items)?),
                 State::Inside(0, inner) => first(derive(e, from, labels, inner, items)?),
                 State::Between => second(derive(f, middle, labels, &State::Started, items)?),
                 State::Inside(_, inner) => second(derive(f, middle, labels, inner, items)?),

@@ -39,10 +39,9 @@ fn groups(expr: &Expr) -> Vec<Vec<Dynamic>> {
             vec![one(0, Under), one(1, Over)],
             vec![one(1, Under), Under],
         ],
-        Expr::Choice(..) => vec![
-            vec![Over, one(0, Over), one(1, Over)],
-            vec![one(0, Under), one(1, Under), Under],
-        ],
+        Expr::Choice(..) => {
+            vec![vec![Over, one(0, Over), one(1, Over)], vec![one(0, Under), one(1, Under), Under]]
+        }
         Expr::Parallel(..) => vec![vec![Over, both(Over, Over)], vec![both(Under, Under), Under]],
         Expr::Loop(..) => vec![
             vec![Over, one(0, Over)],

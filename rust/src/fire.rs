@@ -238,11 +238,7 @@ pub enum Enabled {
 
 /// Writes the enabled transitions into `list`, rising: 30, 35, 14. Nothing is
 /// written on refusal.
-pub fn enabled(
-    tables: Tables<'_>,
-    marking: &[u8],
-    list: &mut [u16],
-) -> Result<Enabled, Refused> {
+pub fn enabled(tables: Tables<'_>, marking: &[u8], list: &mut [u16]) -> Result<Enabled, Refused> {
     tables.check()?;
     let marking = tables.marked(marking)?;
     let ready = |number: &usize| {

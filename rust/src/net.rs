@@ -229,11 +229,8 @@ fn count(expr: &Expr, parts: &mut Vec<Part>) -> Part {
         }
         Expr::Loop(e, f, g) => {
             let (e, f, g) = (count(e, parts), count(f, parts), count(g, parts));
-            let middle = e
-                .exits
-                .saturating_mul(f.exits)
-                .saturating_mul(f.entries)
-                .saturating_mul(g.entries);
+            let middle =
+                e.exits.saturating_mul(f.exits).saturating_mul(f.entries).saturating_mul(g.entries);
             let inner = e.internals.saturating_add(f.internals).saturating_add(g.internals);
             Part {
                 entries: e.entries,

@@ -86,8 +86,15 @@ fn halves(random: &mut Random, actions: usize, depth: usize) -> (usize, usize) {
     (actions / 2, actions - actions / 2)
 }
 
-fn any(random: &mut Random, shape: Shape, actions: usize, depth: usize, favoured: Option<u8>) -> Expr {
-    if fits(actions, depth.saturating_sub(1)) && random.chance(1, if actions == 1 { 12 } else { 5 }) {
+fn any(
+    random: &mut Random,
+    shape: Shape,
+    actions: usize,
+    depth: usize,
+    favoured: Option<u8>,
+) -> Expr {
+    if fits(actions, depth.saturating_sub(1)) && random.chance(1, if actions == 1 { 12 } else { 5 })
+    {
         return scoped(random, shape, actions, depth, favoured);
     }
     if actions == 1 {
@@ -107,7 +114,13 @@ fn any(random: &mut Random, shape: Shape, actions: usize, depth: usize, favoured
 }
 
 /// A scope, often over a parallel whose sides lean to conjugate labels.
-fn scoped(random: &mut Random, shape: Shape, actions: usize, depth: usize, favoured: Option<u8>) -> Expr {
+fn scoped(
+    random: &mut Random,
+    shape: Shape,
+    actions: usize,
+    depth: usize,
+    favoured: Option<u8>,
+) -> Expr {
     let name = name(random, shape);
     if actions > 1 && fits(actions, depth - 2) && random.chance(3, 4) {
         let (left, right) = halves(random, actions, depth - 1);
@@ -121,7 +134,13 @@ fn scoped(random: &mut Random, shape: Shape, actions: usize, depth: usize, favou
     Expr::scope(name, any(random, shape, actions, depth - 1, favoured))
 }
 
-fn repeated(random: &mut Random, shape: Shape, actions: usize, depth: usize, favoured: Option<u8>) -> Expr {
+fn repeated(
+    random: &mut Random,
+    shape: Shape,
+    actions: usize,
+    depth: usize,
+    favoured: Option<u8>,
+) -> Expr {
     let (mut first, mut body) = (1, 1);
     for _ in 0..actions - 3 {
         match random.below(4) {
@@ -150,7 +169,13 @@ fn repeated(random: &mut Random, shape: Shape, actions: usize, depth: usize, fav
 }
 
 /// An exclusive expression.
-fn exclusive(random: &mut Random, shape: Shape, actions: usize, depth: usize, favoured: Option<u8>) -> Expr {
+fn exclusive(
+    random: &mut Random,
+    shape: Shape,
+    actions: usize,
+    depth: usize,
+    favoured: Option<u8>,
+) -> Expr {
     if fits(actions, depth.saturating_sub(1)) && random.chance(1, 6) {
         let inner = exclusive(random, shape, actions, depth - 1, favoured);
         return Expr::scope(name(random, shape), inner);
@@ -299,10 +324,7 @@ pub fn record(random: &mut Random, net: &Net, steps: usize, wrong: usize) -> Vec
 fn item(net: &Net, number: usize) -> Item {
     let transition = net.transition(number);
     let second = transition.second;
-    Item {
-        first: transition.first as u8,
-        second: (second != NONE).then_some(second as u8),
-    }
+    Item { first: transition.first as u8, second: (second != NONE).then_some(second as u8) }
 }
 
 /// A step that fires, and the marking after it; no items where none does.
