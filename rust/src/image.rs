@@ -57,13 +57,8 @@ impl Image {
     }
 
     /// How many places hold the list's first place.
-    pub fn len(&self) -> usize {
+    pub fn count(&self) -> usize {
         self.dims[..self.free].iter().map(|dim| usize::from(dim.0)).product()
-    }
-
-    /// Whether no place holds it; never so.
-    pub fn is_empty(&self) -> bool {
-        false
     }
 
     /// Adds the places that hold the list's first place to `places`, rising.

@@ -457,7 +457,7 @@ impl Lengths {
 /// How many arcs the transitions have. The two actions of a joined one part
 /// at a parallel, so they have no place in common.
 fn arcs_of(transitions: &[Listed], images: &[(Image, Image)]) -> usize {
-    let around: Vec<usize> = images.iter().map(|image| image.0.len() + image.1.len()).collect();
+    let around: Vec<usize> = images.iter().map(|image| image.0.count() + image.1.count()).collect();
     let mut arcs = 0;
     for listed in transitions {
         arcs += around[usize::from(listed.first)];

@@ -16,7 +16,7 @@ impl Random {
     }
 
     /// The next number.
-    pub fn next(&mut self) -> u64 {
+    pub fn number(&mut self) -> u64 {
         self.0 = self.0.wrapping_add(0x9E37_79B9_7F4A_7C15);
         let mut z = self.0;
         z = (z ^ (z >> 30)).wrapping_mul(0xBF58_476D_1CE4_E5B9);
@@ -26,7 +26,7 @@ impl Random {
 
     /// A number below `n`; `n` is not 0.
     pub fn below(&mut self, n: usize) -> usize {
-        (self.next() % n as u64) as usize
+        (self.number() % n as u64) as usize
     }
 
     /// A number from `low` to `high`, both possible.
@@ -389,7 +389,7 @@ pub fn damage(random: &mut Random, bytes: &mut Vec<u8>) {
         match random.below(5) {
             0 | 1 if spot < bytes.len() => {
                 bytes[spot] = match random.below(4) {
-                    0 => random.next() as u8,
+                    0 => random.number() as u8,
                     1 => bytes[spot].wrapping_add(1),
                     2 => bytes[spot].wrapping_sub(1),
                     _ => [0, 1, 6, 7, 0x20, 0x21, 0x22, 128][random.below(8)],

@@ -385,7 +385,7 @@ fn net_and_rules_agree() {
             damage(&mut random, &mut record);
         }
         let places = net.kinds.len();
-        let mut marking = vec![random.next() as u8 | 2; places + 3];
+        let mut marking = vec![random.number() as u8 | 2; places + 3];
         let past = marking[places..].to_vec();
         let verdict = replay(&bytes, &record, &mut marking);
         assert_eq!(marking[places..], past);
