@@ -1,3 +1,4 @@
 pub mod Form
 pub mod Fire
 pub mod Enabled
+pub mod FormSays

@@ -1,0 +1,2 @@
+// Reads step fields, fires a step at a marking, and lists the enabled transitions.
+pub mod form;

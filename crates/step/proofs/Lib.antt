@@ -1,0 +1,3 @@
+pub mod ItemForms
+pub mod ItemLists
+pub mod StepForms
