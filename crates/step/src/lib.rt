@@ -1,2 +1,9 @@
 // Reads step fields, fires a step at a marking, and lists the enabled transitions.
 pub mod form;
+pub mod moving;
+
+// Done, or the refusal with what it carries.
+pub enum Fired {
+    Done,
+    Refused(usize, usize),
+}
