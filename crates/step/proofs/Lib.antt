@@ -5,3 +5,5 @@ pub mod MoveTurns
 pub mod Bools
 pub mod Filled
 pub mod MoveAnswers
+pub mod MovesAreFiring
+pub mod Outcome
