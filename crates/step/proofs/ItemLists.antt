@@ -43,15 +43,15 @@ item-first i j = go (eqb j none)
     go true = refl
     go false = refl
 
--- Items behind those that were read before.
-abbrev pub behind : List Item → Answer (List Item) → Answer (List Item)
+-- What comes behind those found before.
+abbrev pub behind : {A : Type 0} → List A → Answer (List A) → Answer (List A)
 behind before r = r >>= (λ is. good (before ++ is))
 
-behind-behind : (a b : List Item) (r : Answer (List Item)) → behind a (behind b r) ≡ behind (a ++ b) r
+pub behind-behind : {A : Type 0} (a b : List A) (r : Answer (List A)) → behind a (behind b r) ≡ behind (a ++ b) r
 behind-behind a b (good is) = ap good (sym (append-assoc a b is))
 behind-behind a b (refused n c) = refl
 
-pub behind-none : (r : Answer (List Item)) → r ≡ behind [] r
+pub behind-none : {A : Type 0} (r : Answer (List A)) → r ≡ behind [] r
 behind-none (good is) = refl
 behind-none (refused n c) = refl
 

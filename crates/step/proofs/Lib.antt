@@ -7,3 +7,6 @@ pub mod Filled
 pub mod MoveAnswers
 pub mod MovesAreFiring
 pub mod Outcome
+pub mod Names
+pub mod Orders
+pub mod FireAnswers

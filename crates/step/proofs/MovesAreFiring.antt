@@ -107,14 +107,14 @@ apart-each places m taken at (t ∷ ts) r h =
     let a = and-parts (lists-rise places t) (all (lists-rise places) ts) r in
     let hs = Rattle.field.proofs.Alls.all-split (λ p. eqb (getD m p 0) 1) (t .inputs) (joined (ins-of ts)) (true-T _ h) in
     let now : shifts 1 0 (filled 0 m taken) (t .inputs) ≡ all (λ p. eqb (count p taken) 0) (t .inputs)
-          = rising-apart places 0 (filled 0 m taken) taken (t .inputs) (rising-lists places t (a .0) .0)
-            (λ q k c. still-there m taken q (hold-at 1 m (t .inputs) q (T-true _ (hs .0)) c)) in
+    = rising-apart places 0 (filled 0 m taken) taken (t .inputs) (rising-lists places t (a .0) .0)
+    (λ q k c. still-there m taken q (hold-at 1 m (t .inputs) q (T-true _ (hs .0)) c)) in
     test (all (λ p. eqb (count p taken) 0) (t .inputs))
     (λ e.
-      let s : shifts 1 0 (filled 0 m taken) (t .inputs) ≡ true = now ∙ e in
-      let rest : ℕ = shifts-each 1 0 (filled 0 (filled 0 m taken) (t .inputs)) (ins-of ts) in
-      rw (e, s, leb·suc-suc, ← filled-append 0 m taken (t .inputs), add-suc, ← suc-add)
-      (apart-each places m (taken ++ t .inputs) (suc at) ts (a .1) (T-true _ (hs .1))))
+    let s : shifts 1 0 (filled 0 m taken) (t .inputs) ≡ true = now ∙ e in
+    let rest : ℕ = shifts-each 1 0 (filled 0 (filled 0 m taken) (t .inputs)) (ins-of ts) in
+    rw (e, s, leb·suc-suc, ← filled-append 0 m taken (t .inputs), add-suc, ← suc-add)
+    (apart-each places m (taken ++ t .inputs) (suc at) ts (a .1) (T-true _ (hs .1))))
     (λ e.
-      let s : shifts 1 0 (filled 0 m taken) (t .inputs) ≡ false = now ∙ e in
-      rw (e, s, add-zero at, lt-leb (suc (length (ins-of ts))) 0 (omega arith)))
+    let s : shifts 1 0 (filled 0 m taken) (t .inputs) ≡ false = now ∙ e in
+    rw (e, s, add-zero at, lt-leb (suc (length (ins-of ts))) 0 (omega arith)))

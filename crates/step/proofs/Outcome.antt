@@ -78,11 +78,11 @@ taken-at m ps safe q =
     ⊎-elim
     (λ z. filled-other 0 m ps q z ∙ omega arith)
     (λ k.
-      test (ltb q (length m))
-      (λ t. filled-here 0 m ps q k (ltb-true q (length m) t) ∙ omega (arith, safe q))
-      (λ t.
-        let out : length m ≤ q = ltb-false q (length m) t in
-        List·getD-eq-default (filled 0 m ps) 0 {n = q} (omega (arith, filled-length 0 m ps)) ∙ sym (ap (λ (n : ℕ). n - count q ps) (List·getD-eq-default m 0 {n = q} out) ∙ omega arith)))
+    test (ltb q (length m))
+    (λ t. filled-here 0 m ps q k (ltb-true q (length m) t) ∙ omega (arith, safe q))
+    (λ t.
+    let out : length m ≤ q = ltb-false q (length m) t in
+    List·getD-eq-default (filled 0 m ps) 0 {n = q} (omega (arith, filled-length 0 m ps)) ∙ sym (ap (λ (n : ℕ). n - count q ps) (List·getD-eq-default m 0 {n = q} out) ∙ omega arith)))
     (zero-or-more (count q ps))
 
 -- One token after another on empty places: no place of the list has one, and none is given to twice.
@@ -93,7 +93,7 @@ puts-counts w (p ∷ ps) i s q h =
     let a = and-parts (eqb (getD w p 0) 0) (shifts 0 1 (set w p 1) ps) (true-T _ s) in
     let empty : getD w p 0 ≡ 0 = eqb-true (getD w p 0) 0 (T-true _ (a .0)) in
     let rest : (q : ℕ) → 1 ≤ count q ps → getD (set w p 1) q 0 + count q ps ≤ 1
-            = puts-counts (set w p 1) ps (λ r k. subst (λ (n : ℕ). r < n) (sym (length-set w p 1)) (i r (more r k))) (T-true _ (a .1)) in
+    = puts-counts (set w p 1) ps (λ r k. subst (λ (n : ℕ). r < n) (sym (length-set w p 1)) (i r (more r k))) (T-true _ (a .1)) in
     test (eqb p q)
     (λ e. rw e (subst (λ (n : ℕ). getD w n 0 + suc (count n ps) ≤ 1) (eqb-true p q e) (here empty (rest p))))
     (λ e. rw e (subst (λ (n : ℕ). n + count q ps ≤ 1) (getD-set-other w p q 1 0 (λ f. eqb-false p q e (sym f))) (rest q (rw e at h))))
@@ -117,9 +117,9 @@ counts-puts w (p ∷ ps) h =
     rw (eq-eqb (getD w p 0) 0 empty)
     (counts-puts (set w p 1) ps
     (λ q k.
-      let other : q ≡ p → ⊥ = λ e. absurd (let f : count q ps ≡ count p ps = ap (λ (n : ℕ). count n ps) e in let z : ⊥ = omega (arith, count-here p ps) in z) in
-      subst (λ (n : ℕ). n + count q ps ≤ 1) (sym (getD-set-other w p q 1 0 other))
-      (subst (λ (n : ℕ). getD w q 0 + n ≤ 1) (count-other q p ps (λ e. other (sym e))) (h q (subst (λ (n : ℕ). 1 ≤ n) (sym (count-other q p ps (λ e. other (sym e)))) k)))))
+    let other : q ≡ p → ⊥ = λ e. absurd (let f : count q ps ≡ count p ps = ap (λ (n : ℕ). count n ps) e in let z : ⊥ = omega (arith, count-here p ps) in z) in
+    subst (λ (n : ℕ). n + count q ps ≤ 1) (sym (getD-set-other w p q 1 0 other))
+    (subst (λ (n : ℕ). getD w q 0 + n ≤ 1) (count-other q p ps (λ e. other (sym e))) (h q (subst (λ (n : ℕ). 1 ≤ n) (sym (count-other q p ps (λ e. other (sym e)))) k)))))
 
 hold-of : (w ps : List ℕ) → ((q : ℕ) → 1 ≤ count q ps → getD w q 0 ≡ 0) → hold 0 w ps ≡ true
 hold-of w ps h = T-true (hold 0 w ps) (all-of (λ p. eqb (getD w p 0) 0) ps (λ q i. subst (λ (n : ℕ). T (eqb n 0)) (sym (h q (member-count q ps i))) tt))
@@ -153,9 +153,9 @@ module _ (m : List ℕ) (ts : List Transition) (safe : Safe m) (r : Rising (leng
   put-at e q h =
       moved-at ts m q h
       ∙ ⊎-elim
-        (λ z. omega (arith, filled-other 1 bare given q z, bare-at q, outs-count q ts))
-        (λ k. omega (arith, filled-here 1 bare given q k (omega (arith, filled-length 0 m (joined (ins-of ts)))), puts-counts bare given given-inside e q k, bare-at q, outs-count q ts))
-        (zero-or-more (count q given))
+      (λ z. omega (arith, filled-other 1 bare given q z, bare-at q, outs-count q ts))
+      (λ k. omega (arith, filled-here 1 bare given q k (omega (arith, filled-length 0 m (joined (ins-of ts)))), puts-counts bare given given-inside e q k, bare-at q, outs-count q ts))
+      (zero-or-more (count q given))
 
   put-moved : shifts 0 1 bare given ≡ true → filled 1 bare given ≡ moved 0 ts m
   put-moved e =
@@ -166,11 +166,11 @@ module _ (m : List ℕ) (ts : List Transition) (safe : Safe m) (r : Rising (leng
   put-fits e =
       all-below (moved 0 ts m)
       (λ q h.
-        let inside : q < length m = omega (arith, moved-length 0 ts m) in
-        ⊎-elim
-        (λ z. omega (arith, moved-at ts m q inside, outs-count q ts, safe q))
-        (λ k. omega (arith, moved-at ts m q inside, puts-counts bare given given-inside e q k, bare-at q, outs-count q ts))
-        (zero-or-more (count q given)))
+      let inside : q < length m = omega (arith, moved-length 0 ts m) in
+      ⊎-elim
+      (λ z. omega (arith, moved-at ts m q inside, outs-count q ts, safe q))
+      (λ k. omega (arith, moved-at ts m q inside, puts-counts bare given given-inside e q k, bare-at q, outs-count q ts))
+      (zero-or-more (count q given)))
 
   -- 36 and the marking afterwards
   outcome : (check (passed (outs-of ts) (holds-each 0 bare (outs-of ts))) two-tokens 0
@@ -194,6 +194,6 @@ module _ (m : List ℕ) (ts : List Transition) (safe : Safe m) (r : Rising (leng
       rw (marked-each m safe 0 ts, zero-add (holds-each 1 m (ins-of ts)))
       (test (passed (ins-of ts) (holds-each 1 m (ins-of ts)))
       (λ e.
-        rw (e, apart-each (length m) m [] 0 ts r (sym (holds-all 1 m (ins-of ts)) ∙ e), zero-add (shifts-each 1 0 m (ins-of ts)))
-        (ap (λ (x : Answer (List ℕ)). check (passed (ins-of ts) (shifts-each 1 0 m (ins-of ts))) input-shared (shifts-each 1 0 m (ins-of ts)) >> x) outcome))
+      rw (e, apart-each (length m) m [] 0 ts r (sym (holds-all 1 m (ins-of ts)) ∙ e), zero-add (shifts-each 1 0 m (ins-of ts)))
+      (ap (λ (x : Answer (List ℕ)). check (passed (ins-of ts) (shifts-each 1 0 m (ins-of ts))) input-shared (shifts-each 1 0 m (ins-of ts)) >> x) outcome))
       (λ e. rw e))

@@ -4,3 +4,4 @@ pub mod Enabled
 pub mod FormSays
 pub mod Moving
 pub mod Says
+pub mod Naming

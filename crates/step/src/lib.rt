@@ -1,4 +1,5 @@
 // Reads step fields, fires a step at a marking, and lists the enabled transitions.
+pub mod firing;
 pub mod form;
 pub mod moving;
 

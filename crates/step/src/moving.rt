@@ -15,14 +15,14 @@ const INPUTS: bool = false;
 
 const OUTPUTS: bool = true;
 
-fn wide(x: u16) -> usize
+pub(crate) fn wide(x: u16) -> usize
     ensures { λ r. ⌜ (r ≡ x) × (r < 65536) ⌝ }
 {
     x as usize
 }
 
 // One of the six numbers of a transition's row.
-fn number(rows: &[u16], t: usize, k: usize) -> usize
+pub(crate) fn number(rows: &[u16], t: usize, k: usize) -> usize
     requires { ⌜ 6 * t + k < length (now rows) ⌝ }
     ensures { λ r. ⌜ (r ≡ in-row (now (rows .entry)) t k) × (r < 65536) ⌝ }
 {
