@@ -1,3 +1,11 @@
 pub mod ReadTables
 pub mod NetPasses
 pub mod Marking
+pub mod Turns
+pub mod RowTurns
+pub mod ChainTurns
+pub mod Walks
+pub mod Stamps
+pub mod RowsPass
+pub mod PairsPass
+pub mod NetTests

@@ -1,3 +1,6 @@
 pub mod Tables
 pub mod Check
 pub mod Marking
+pub mod Lent
+pub mod Chains
+pub mod Passes

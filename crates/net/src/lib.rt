@@ -1,0 +1,63 @@
+// The tables of a net as they are lent: whether they are a net (check 30), whether a marking is one (check 35),
+// and an index of the transitions by their first action.
+ghost use mathlib.Core.Path.{_≡_};
+ghost use mathlib.Core.Bool.{_&&_};
+ghost use Prim.Native.Nat.{_*_, _≤_};
+ghost use lib.ListN.{length, take};
+ghost use lib.Dec.{leb};
+ghost use Rattle.net.specs.Check.{is-net, counts-fit, tables-reach};
+ghost use Rattle.net.specs.Lent.{lent};
+
+pub mod chains;
+mod kinds;
+mod pairs;
+pub mod rows;
+pub mod tokens;
+
+// No count is over its limit. Only behind this test may counts be multiplied: a lent count can be any number.
+fn counts_fit(places: usize, transitions: usize, arc_count: usize) -> bool
+    ensures { λ r. ⌜ r ≡ (leb places 2048 && (leb transitions 1024 && leb «arc_count» 16384)) ⌝ }
+{
+    (places <= 2048) & ((transitions <= 1024) & (arc_count <= 16384))
+}
+
+// Each table holds as much as its count says.
+fn tables_reach(
+    kinds: &[u8],
+    rows: &[u16],
+    arcs: &[u16],
+    places: usize,
+    transitions: usize,
+    arc_count: usize,
+) -> bool
+    requires { ⌜ transitions ≤ 1024 ⌝ }
+    ensures { λ r. ⌜ r ≡ (leb places (length (now (kinds .entry))) && (leb (6 * transitions) (length (now (rows .entry))) && leb «arc_count» (length (now (arcs .entry))))) ⌝ }
+{
+    (places <= kinds.len()) & ((6 * transitions <= rows.len()) & (arc_count <= arcs.len()))
+}
+
+// Whether three lent tables with three counts are a net. Each test stands behind those that make it safe to look at the tables.
+pub fn is_net(
+    kinds: &[u8],
+    rows: &[u16],
+    arcs: &[u16],
+    places: usize,
+    transitions: usize,
+    arc_count: usize,
+) -> bool
+    ensures { λ r. ⌜ r ≡ is-net (lent (now (kinds .entry)) (now (rows .entry)) (now (arcs .entry)) places transitions «arc_count») ⌝ }
+{
+    if !counts_fit(places, transitions, arc_count) {
+        return false;
+    }
+    if !tables_reach(kinds, rows, arcs, places, transitions, arc_count) {
+        return false;
+    }
+    if !kinds::in_order(&kinds[..places]) {
+        return false;
+    }
+    if !rows::all_fit(rows, arcs, places, transitions, arc_count) {
+        return false;
+    }
+    pairs::differ(rows, transitions)
+}

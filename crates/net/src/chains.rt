@@ -1,0 +1,47 @@
+// An index of the transitions by their first action. `head` has for each action the first transition of its chain, and `next`
+// for each transition the one after it on the same chain; 65,535 ends a chain. Who looks for an action's transitions meets these only.
+ghost use mathlib.Core.Path.{_≡_};
+ghost use Prim.Native.Nat.{ℕ, _*_, _<_, _≤_};
+ghost use lib.ListN.{length, getD, replicate};
+ghost use Rattle.net.specs.Chains.{Chains, Kept};
+use crate::rows;
+
+// A chain for each action, with nothing on it.
+pub fn no_heads() -> [u16; 256]
+    ensures { λ r. ⌜ r ≡ replicate 256 65535 ⌝ }
+{
+    [65535u16; 256]
+}
+
+// From the last transition down to the first, each goes to the front of its chain: so the numbers on a chain rise.
+fn link(rows: &[u16], transitions: usize, head: &mut [u16], next: &mut [u16])
+    requires { ⌜ (transitions ≤ 1024) × (6 * transitions ≤ length (now rows)) × (transitions ≤ length (now next)) × (256 ≤ length (now head)) ⌝ }
+    requires { ⌜ ((i : ℕ) → i < 256 → getD (now head) i 0 ≡ 65535) ⌝ }
+    ensures { λ _. ⌜ Chains (now (rows .entry)) transitions (now (head .exit)) (now (next .exit)) ⌝ }
+    ensures { λ _. ⌜ Kept (now (rows .entry)) transitions (now (next .entry)) (now (next .exit)) ⌝ }
+{
+    let mut t = transitions;
+    while 0 < t {
+        t -= 1;
+        let first = rows::number(rows, t, 1);
+        if first < 256 {
+            next[t] = head[first];
+            head[first] = t as u16;
+        }
+    }
+}
+
+// For each action up to 255, the chain of the transitions that have it as their first action, by rising number.
+pub fn index_by_first(
+    rows: &[u16],
+    transitions: usize,
+    head: &mut [u16; 256],
+    next: &mut [u16; 1024],
+)
+    requires { ⌜ (transitions ≤ 1024) × (6 * transitions ≤ length (now rows)) ⌝ }
+    ensures { λ _. ⌜ Chains (now (rows .entry)) transitions (now (head .exit)) (now (next .exit)) ⌝ }
+    ensures { λ _. ⌜ Kept (now (rows .entry)) transitions (now (next .entry)) (now (next .exit)) ⌝ }
+{
+    *head = no_heads();
+    link(rows, transitions, head, next);
+}

@@ -1,0 +1,92 @@
+// No two transitions have the same pair of actions. The transitions of one first action stand on one chain, so it is enough that no second
+// action comes twice on a chain; this takes a step for each transition and one for each action.
+ghost use mathlib.Core.Path.{_≡_};
+ghost use Prim.Native.Nat.{ℕ, _+_, _*_, _<_, _≤_};
+ghost use lib.ListN.{length, getD, replicate};
+ghost use Rattle.net.specs.Chains.{Chains};
+ghost use Rattle.net.specs.Passes.{second-or-256, seconds-differ, pairs-pass};
+use crate::chains;
+use crate::rows;
+
+fn no_nexts() -> [u16; 1024]
+    ensures { λ r. ⌜ r ≡ replicate 1024 0 ⌝ }
+{
+    [0u16; 1024]
+}
+
+fn no_stamps() -> [u16; 257]
+    ensures { λ r. ⌜ r ≡ replicate 257 0 ⌝ }
+{
+    [0u16; 257]
+}
+
+// The second action of transition t, and 256 for none.
+fn second(rows: &[u16], t: usize) -> usize
+    requires { ⌜ 6 * t + 6 ≤ length (now rows) ⌝ }
+    ensures { λ r. ⌜ (r ≡ second-or-256 (now (rows .entry)) t) × (r < 257) ⌝ }
+{
+    let action = rows::number(rows, t, 2);
+    if action < 256 { action } else { 256 }
+}
+
+// One chain. A second action gets the chain's stamp when it is met; stamps of earlier chains are smaller, so nothing has to be wiped out between two.
+fn chain_differs(
+    rows: &[u16],
+    transitions: usize,
+    head: &[u16; 256],
+    next: &[u16; 1024],
+    first: usize,
+    stamps: &mut [u16],
+) -> bool
+    requires { ⌜ (first < 256) × (transitions ≤ 1024) × (6 * transitions ≤ length (now rows)) × (257 ≤ length (now stamps)) ⌝ }
+    requires { ⌜ Chains (now rows) transitions (now head) (now next) ⌝ }
+    requires { ⌜ ((j : ℕ) → getD (now stamps) j 0 ≤ first) ⌝ }
+    ensures { λ r. ⌜ r ≡ seconds-differ (now (rows .entry)) transitions first ⌝ }
+    ensures { λ r. ⌜ ((j : ℕ) → getD (now (stamps .exit)) j 0 ≤ first + 1) ⌝ }
+{
+    let stamp = (first + 1) as u16;
+    let mut t = head[first] as usize;
+    while t < transitions {
+        let j = second(rows, t);
+        if stamps[j] == stamp {
+            return false;
+        }
+        stamps[j] = stamp;
+        t = next[t] as usize;
+    }
+    true
+}
+
+fn chains_differ(
+    rows: &[u16],
+    transitions: usize,
+    head: &[u16; 256],
+    next: &[u16; 1024],
+    stamps: &mut [u16],
+) -> bool
+    requires { ⌜ (transitions ≤ 1024) × (6 * transitions ≤ length (now rows)) × (257 ≤ length (now stamps)) ⌝ }
+    requires { ⌜ Chains (now rows) transitions (now head) (now next) ⌝ }
+    requires { ⌜ ((j : ℕ) → getD (now stamps) j 0 ≤ 0) ⌝ }
+    ensures { λ r. ⌜ r ≡ pairs-pass (now (rows .entry)) transitions ⌝ }
+{
+    let mut first: usize = 0;
+    while first < 256 {
+        if chain_differs(rows, transitions, head, next, first, stamps) {
+            first += 1;
+        } else {
+            return false;
+        }
+    }
+    true
+}
+
+pub fn differ(rows: &[u16], transitions: usize) -> bool
+    requires { ⌜ (transitions ≤ 1024) × (6 * transitions ≤ length (now rows)) ⌝ }
+    ensures { λ r. ⌜ r ≡ pairs-pass (now (rows .entry)) transitions ⌝ }
+{
+    let mut head = chains::no_heads();
+    let mut next = no_nexts();
+    chains::index_by_first(rows, transitions, &mut head, &mut next);
+    let mut stamps = no_stamps();
+    chains_differ(rows, transitions, &head, &next, &mut stamps)
+}
