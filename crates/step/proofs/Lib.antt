@@ -10,3 +10,5 @@ pub mod Outcome
 pub mod Names
 pub mod Orders
 pub mod FireAnswers
+pub mod NetInOrder
+pub mod FireCall

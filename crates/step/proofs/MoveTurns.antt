@@ -13,7 +13,8 @@ use lib.Dec.{eqb, leb}
 use Rattle.field.specs.Lists.{all}
 use Rattle.algebra.specs.Firing.{count}
 use Rattle.algebra.proofs.Enough.{count-here, count-cons, count-append}
-use Rattle.step.specs.Moving.{in-row, side-of, sides, Below, Fits, AllFit, hold, holds-each, filled, shifts, shifts-each, joined}
+use Rattle.net.specs.Chains.{in-row}
+use Rattle.step.specs.Moving.{side-of, sides, Below, Fits, AllFit, hold, holds-each, filled, shifts, shifts-each, joined}
 
 pub list-next : (l : List ℕ) (i p : ℕ) → i < length l → p ≡ getD l i 0 → drop i l ≡ p ∷ drop (i + 1) l
 list-next l i p h e = rw (add-one, drop-cons l i 0, e)

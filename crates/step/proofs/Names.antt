@@ -18,7 +18,7 @@ use Rattle.algebra.specs.Net.{Transition}
 use Rattle.algebra.specs.Firing.{names, named-by, transitions-named}
 use Rattle.net.specs.Tables.{none, item-of, transition-at, transitions-from}
 use Rattle.step.specs.FormSays.{paired}
-use Rattle.step.specs.Moving.{in-row}
+use Rattle.net.specs.Chains.{in-row}
 use Rattle.step.specs.Naming.{rows-and-arcs, transition-in, transitions-within, seek, found-says}
 use Rattle.step.proofs.Bools.{test}
 use Rattle.step.proofs.ItemLists.{behind, behind-behind}

@@ -84,8 +84,8 @@ module _ (at : ℕ) (s : List ℕ) (r : HeadAnswer) (says : head-says at r ≡ s
 pub head-fits : (left n : ℕ) (r : HeadAnswer) → HeadFits left r → r ≡ head-answer.Body n → 3 + n ≤ left
 head-fits left n r f e = subst (HeadFits left) e f
 
-pub items-fit : (k : ℕ) (q : ItemsAnswer) → ItemsFit q → q ≡ items-answer.Items k → k ≤ 256
-items-fit k q f e = subst ItemsFit e f
+pub items-fit : (k : ℕ) (q : ItemsAnswer) (firsts seconds : List ℕ) → ItemsFit q firsts seconds → q ≡ items-answer.Items k → (k ≤ 256) × (k ≤ length firsts) × (k ≤ length seconds)
+items-fit k q firsts seconds f e = subst (λ (a : ItemsAnswer). ItemsFit a firsts seconds) e f
 
 module _ (s : List ℕ) (r : HeadAnswer) (says : head-says 0 r ≡ step-head 0 s) where
   pub lent-refused : (n : ℕ) → r ≡ head-answer.Refused n → refused n 0 ≡ read-lent-step s

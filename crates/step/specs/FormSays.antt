@@ -49,9 +49,10 @@ abbrev pub items-say : ℕ → ItemsAnswer → List ℕ → List ℕ → Answer 
 items-say at (items-answer.Refused n) firsts seconds = refused n at
 items-say at (items-answer.Items n) firsts seconds = good (items-in n firsts seconds)
 
-abbrev pub ItemsFit : ItemsAnswer → Type 0
-ItemsFit (items-answer.Refused n) = Unit {0}
-ItemsFit (items-answer.Items n) = n ≤ 256
+-- There is room for no more items than 256, and the two lists hold them.
+abbrev pub ItemsFit : ItemsAnswer → List ℕ → List ℕ → Type 0
+ItemsFit (items-answer.Refused n) firsts seconds = Unit {0}
+ItemsFit (items-answer.Items n) firsts seconds = (n ≤ 256) × (n ≤ length firsts) × (n ≤ length seconds)
 
 -- "a step's own header before them"; "a step of no items is not" good. The answer is the length of the body.
 unfoldable pub step-head : ℕ → List ℕ → Answer ℕ
@@ -75,7 +76,7 @@ abbrev pub step-says : ℕ → StepAnswer → List ℕ → List ℕ → Answer S
 step-says at (step-answer.Refused n) firsts seconds = refused n at
 step-says at (step-answer.Step n bytes) firsts seconds = good (record { items = items-in n firsts seconds; bytes = bytes })
 
--- The step lies in the bytes.
-abbrev pub StepFits : ℕ → StepAnswer → Type 0
-StepFits left (step-answer.Refused n) = Unit {0}
-StepFits left (step-answer.Step n bytes) = (n ≤ 256) × (1 ≤ bytes) × (bytes ≤ left)
+-- The step lies in the bytes, and the two lists hold its items.
+abbrev pub StepFits : ℕ → StepAnswer → List ℕ → List ℕ → Type 0
+StepFits left (step-answer.Refused n) firsts seconds = Unit {0}
+StepFits left (step-answer.Step n bytes) firsts seconds = (1 ≤ bytes) × (bytes ≤ left) × (n ≤ 256) × (n ≤ length firsts) × (n ≤ length seconds)

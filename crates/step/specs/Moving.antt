@@ -9,10 +9,7 @@ use Rattle.field.specs.Refusals.{input-empty, input-shared, two-tokens}
 use Rattle.field.specs.Answer.{Answer, good, refused, _>>=_, _>>_, check}
 use Rattle.field.specs.Lists.{all}
 use Rattle.algebra.specs.Firing.{count}
-
--- One of the six numbers of a transition, in the rows alone.
-abbrev pub in-row : List ℕ → ℕ → ℕ → ℕ
-in-row rows t k = getD rows (6 * t + k) 0
+use Rattle.net.specs.Chains.{in-row}
 
 -- The places on one side of a transition: those that it produces into, or else those that it consumes from.
 unfoldable pub side-of : Bool → List ℕ → List ℕ → ℕ → List ℕ

@@ -10,7 +10,7 @@ use Rattle.field.specs.Lists.{all}
 use Rattle.algebra.specs.Net.{Transition}
 use Rattle.net.specs.Tables.{Tables, transition-at, transitions-from}
 use Rattle.net.specs.Check.{lists-rise}
-use Rattle.step.specs.Moving.{in-row}
+use Rattle.net.specs.Chains.{in-row}
 
 -- The tables of which only rows and arcs are looked at.
 abbrev pub rows-and-arcs : List ℕ → List ℕ → Tables

@@ -117,7 +117,7 @@ pub fn read_items(
     seconds: &mut [u16; MOST_ITEMS],
 ) -> ItemsAnswer
     ensures says { λ r. ⌜ ((at : ℕ) → items-say at r (now (firsts .exit)) (now (seconds .exit)) ≡ read-items at 0 0 (now (body .entry))) ⌝ }
-    ensures fits { λ r. ⌜ ItemsFit r ⌝ }
+    ensures fits { λ r. ⌜ ItemsFit r (now (firsts .exit)) (now (seconds .exit)) ⌝ }
 {
     numbers_in(firsts);
     numbers_in(seconds);
@@ -171,7 +171,7 @@ pub fn read_step(
     seconds: &mut [u16; MOST_ITEMS],
 ) -> StepAnswer
     ensures says { λ r. ⌜ ((at : ℕ) → step-says at r (now (firsts .exit)) (now (seconds .exit)) ≡ read-step at (now (s .entry))) ⌝ }
-    ensures fits { λ r. ⌜ StepFits (length (now (s .entry))) r ⌝ }
+    ensures fits { λ r. ⌜ StepFits (length (now (s .entry))) r (now (firsts .exit)) (now (seconds .exit)) ⌝ }
 {
     match step_head(s) {
         HeadAnswer::Refused(n) => StepAnswer::Refused(n),
@@ -195,7 +195,7 @@ pub fn read_lent_step(
     seconds: &mut [u16; MOST_ITEMS],
 ) -> ItemsAnswer
     ensures says { λ r. ⌜ items-say 0 r (now (firsts .exit)) (now (seconds .exit)) ≡ read-lent-step (now (s .entry)) ⌝ }
-    ensures fits { λ r. ⌜ ItemsFit r ⌝ }
+    ensures fits { λ r. ⌜ ItemsFit r (now (firsts .exit)) (now (seconds .exit)) ⌝ }
 {
     match step_head(s) {
         HeadAnswer::Refused(n) => ItemsAnswer::Refused(n),

@@ -6,7 +6,8 @@ ghost use mathlib.Core.Bool.{Bool, true, false};
 ghost use Prim.Native.Nat.{ℕ, _+_, _*_, _<_, _≤_};
 ghost use lib.ListN.{length, getD};
 ghost use Rattle.algebra.specs.Firing.{count};
-ghost use Rattle.step.specs.Moving.{in-row, side-of, sides, Below, Fits, AllFit, hold, holds-each, filled, shifts, shifts-each, joined, moves};
+ghost use Rattle.net.specs.Chains.{in-row};
+ghost use Rattle.step.specs.Moving.{side-of, sides, Below, Fits, AllFit, hold, holds-each, filled, shifts, shifts-each, joined, moves};
 ghost use Rattle.step.specs.Says.{Moves};
 use crate::Fired;
 
@@ -21,23 +22,15 @@ pub(crate) fn wide(x: u16) -> usize
     x as usize
 }
 
-// One of the six numbers of a transition's row.
-pub(crate) fn number(rows: &[u16], t: usize, k: usize) -> usize
-    requires { ⌜ 6 * t + k < length (now rows) ⌝ }
-    ensures { λ r. ⌜ (r ≡ in-row (now (rows .entry)) t k) × (r < 65536) ⌝ }
-{
-    wide(rows[6 * t + k])
-}
-
 // The places on one side of transition t.
 pub fn side<'a>(rows: &[u16], arcs: &'a [u16], t: usize, out: bool) -> &'a [u16]
     requires { ⌜ (6 * t + 6 ≤ length (now rows)) × (in-row (now rows) t 3 + (in-row (now rows) t 4 + in-row (now rows) t 5) ≤ length (now arcs)) ⌝ }
     ensures { λ r. ⌜ now r ≡ side-of out (now (rows .entry)) (now (arcs .entry)) t ⌝ }
 {
-    let start = number(rows, t, 3);
-    let middle = start + number(rows, t, 4);
+    let start = net::rows::number(rows, t, 3);
+    let middle = start + net::rows::number(rows, t, 4);
     if out {
-        let end = middle + number(rows, t, 5);
+        let end = middle + net::rows::number(rows, t, 5);
         return &arcs[middle..end];
     }
     &arcs[start..middle]
