@@ -4,18 +4,14 @@ use Prim.Native.Nat.{ℕ, _≤_}
 use mathlib.Core.Path.{_≡_, refl, sym, ap, ap₂, subst, _∙_}
 use mathlib.Core.List.{List, _++_}
 use mathlib.Core.Bool.{Bool, true, false}
-use borrow.Author.Tests.{leb-true}
 use lib.ListN.{length, take, drop, take-append-drop}
-use lib.Dec.{leb}
 use Rattle.field.specs.Answer.{Answer, good, refused, _>>=_, _>>_, check}
-use Rattle.field.specs.Refusals.{no-net, no-marking}
-use Rattle.field.specs.Lists.{all}
-use Rattle.field.proofs.Answers.{check-good}
+use Rattle.field.specs.Refusals.{no-marking}
 use Rattle.algebra.specs.Item.{Item}
 use Rattle.algebra.specs.Firing.{fire-items}
 use Rattle.net.specs.Tables.{Tables, transitions-in}
 use Rattle.net.specs.Check.{is-net, check-net}
-use Rattle.net.specs.Marking.{check-marking, check-room}
+use Rattle.net.specs.Marking.{check-marking}
 use Rattle.step.specs.Form.{read-lent-step}
 use Rattle.step.specs.FormSays.{items-in, items-say}
 use Rattle.step.specs.Fire.{fire-step, fired, fire}
@@ -30,18 +26,6 @@ use Rattle.step.proofs.NetInOrder.{transitions-lent}
 -- What the code answers and leaves is what the call says.
 abbrev pub Says : Fired → List ℕ → Tables → List ℕ → List ℕ → Type 0
 Says r exit tables m s = (fired-says r ≡ fire tables m s .answer) × (exit ≡ fire tables m s .marking)
-
--- check 35 that was passed
-pub marking-good : (places : ℕ) (m : List ℕ) (b : Bool) → check-marking places m ≡ check b no-marking 0 → b ≡ true → (places ≤ length m) × (all (λ x. leb x 1) (take places m) ≡ true)
-unfolding check-marking
-marking-good places m b e t =
-    let f : check-marking places m ≡ good tt = e ∙ ap (λ (x : Bool). check x no-marking 0) t in
-    let a = check-good (leb places (length m)) no-marking 0 _ tt f in
-    (leb-true places (length m) (a .0), passes (all (λ x. leb x 1) (take places m)) (a .1))
-  where
-    passes : (x : Bool) → check x no-marking 0 ≡ good tt → x ≡ true
-    passes true e = refl
-    passes false e = Rattle.field.proofs.Answers.good-not-refused (refused no-marking 0) tt no-marking 0 e refl
 
 module _ (tables : Tables) (m s : List ℕ) where
   refuses : (n c : ℕ) → refused n c ≡ fire-step tables m s → Says (Refused n c) m tables m s

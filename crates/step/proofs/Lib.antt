@@ -12,3 +12,6 @@ pub mod Orders
 pub mod FireAnswers
 pub mod NetInOrder
 pub mod FireCall
+pub mod EnabledTurns
+pub mod Checked
+pub mod EnabledCall

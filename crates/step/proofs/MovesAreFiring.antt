@@ -37,7 +37,7 @@ abbrev pub Safe : List ℕ → Type 0
 Safe m = (p : ℕ) → getD m p 0 ≤ 1
 
 -- 32: in a marking with at most one token a place, marked is holding one.
-marked-hold : (m : List ℕ) → Safe m → (t : Transition) → marked m t ≡ hold 1 m (t .inputs)
+pub marked-hold : (m : List ℕ) → Safe m → (t : Transition) → marked m t ≡ hold 1 m (t .inputs)
 unfolding marked all
 marked-hold m safe t = go (t .inputs)
   where

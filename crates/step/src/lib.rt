@@ -4,16 +4,25 @@ ghost use mathlib.Core.Path.{_≡_};
 ghost use lib.ListN.{replicate};
 ghost use Rattle.net.specs.Lent.{lent};
 ghost use Rattle.step.specs.Fire;
-ghost use Rattle.step.specs.Says.{fired-says};
+ghost use Rattle.step.specs.Enabled;
+ghost use Rattle.step.specs.Says.{fired-says, enabling-says};
 use crate::form::ItemsAnswer;
 
 pub mod firing;
 pub mod form;
+pub mod listing;
 pub mod moving;
 
 // Done, or the refusal with what it carries.
 pub enum Fired {
     Done,
+    Refused(usize, usize),
+}
+
+// How many transitions are enabled, that none is, or the refusal with what it carries.
+pub enum Enabling {
+    Many(usize),
+    Stuck,
     Refused(usize, usize),
 }
 
@@ -61,4 +70,36 @@ pub fn fire(
             )
         }
     }
+}
+
+// Lists the enabled transitions. On refusal nothing is written, and what lies behind the list is never touched.
+pub fn enabled(
+    kinds: &[u8],
+    rows: &[u16],
+    arcs: &[u16],
+    places: usize,
+    transitions: usize,
+    arc_count: usize,
+    marking: &[u8],
+    out: &mut [u16],
+) -> Enabling
+    ensures answer { λ r. ⌜ enabling-says r ≡ Enabled.enabled (lent (now (kinds .entry)) (now (rows .entry)) (now (arcs .entry)) places transitions «arc_count») (now (marking .entry)) (now (out .entry)) .answer ⌝ }
+    ensures list { λ r. ⌜ now (out .exit) ≡ Enabled.enabled (lent (now (kinds .entry)) (now (rows .entry)) (now (arcs .entry)) places transitions «arc_count») (now (marking .entry)) (now (out .entry)) .list ⌝ }
+{
+    if !net::is_net(kinds, rows, arcs, places, transitions, arc_count) {
+        return Enabling::Refused(field::NO_NET, 0);
+    }
+    if !net::tokens::is_marking(marking, places) {
+        return Enabling::Refused(field::NO_MARKING, 0);
+    }
+    let tokens = &marking[..places];
+    let many = listing::count(rows, arcs, tokens, transitions);
+    if out.len() < many {
+        return Enabling::Refused(field::TABLE_TOO_SHORT, 0);
+    }
+    listing::write(rows, arcs, tokens, transitions, out);
+    if many == 0 {
+        return Enabling::Stuck;
+    }
+    Enabling::Many(many)
 }

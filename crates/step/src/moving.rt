@@ -12,7 +12,7 @@ ghost use Rattle.step.specs.Says.{Moves};
 use crate::Fired;
 
 // The two sides of a transition: the places that it consumes from, and those that it produces into.
-const INPUTS: bool = false;
+pub(crate) const INPUTS: bool = false;
 
 const OUTPUTS: bool = true;
 

@@ -13,8 +13,8 @@ use Rattle.field.specs.Lists.{all}
 use Rattle.net.specs.Lent.{lent}
 use Rattle.step.specs.Naming.{InOrder}
 use Rattle.step.proofs.StepForms.{items-fit}
-use Rattle.step.proofs.NetInOrder.{net-in-order}
-use Rattle.step.proofs.FireCall.{marking-good, no-net-lent, no-marking-lent, no-step-lent, items-lent}
+use Rattle.step.proofs.Checked.{marking-good, lent-order}
+use Rattle.step.proofs.FireCall.{no-net-lent, no-marking-lent, no-step-lent, items-lent}
 use Rattle.step.proofs.fire.Statement.{statement}
 use Rattle.step.proofs.fire.Tie as tie
 use Rattle.step.proofs.fire.Reads as reads
@@ -41,8 +41,7 @@ marked c = marking-good (c .before .before .before .before .before .before .befo
 order : (c : Read) → InOrder (c .before .before .before .before .before .before .before .before .before .before .before .before .before .before .before .before .before .before .before .args .rows .now) (c .before .before .before .before .before .before .before .before .before .before .before .before .before .before .before .before .before .before .before .args .arcs .now) (c .before .before .before .before .before .before .before .before .before .before .before .before .before .before .before .before .before .before .before .args .transitions) (length (take (c .before .before .before .before .before .before .before .before .before .before .before .before .before .before .before .before .before .before .before .args .places) (c .before .before .before .before .before .before .before .before .before .before .before .before .before .before .before .before .before .before .before .args .marking .now)))
 order c =
     let a = c .before .before .before .before .before .before .before .before .before .before .before .before .before .before .before .before .before .before .before .args in
-    subst (InOrder (a .rows .now) (a .arcs .now) (a .transitions)) (sym (length-take-le (a .places) (a .marking .now) (marked c .0)))
-    (net-in-order (a .kinds .now) (a .rows .now) (a .arcs .now) (a .places) (a .transitions) (a .arc-count) (sym (c .before .before .before .before .before .before .before .before .before .before .before .before .before .is-net .ensures) ∙ not-false (c .before .before .before .before .before .before .before .before .before .before .before .before .before .is-net .result) (c .before .before .before .before .before .before .before .before .before .before .before .before .if1 .left)))
+    lent-order (a .kinds .now) (a .rows .now) (a .arcs .now) (a .places) (a .transitions) (a .arc-count) (a .marking .now) (c .before .before .before .before .before .before .before .before .before .before .before .before .before .is-net .result) (c .before .before .before .before .before .before .before .before .before .before .before .before .before .is-net .ensures) (not-false (c .before .before .before .before .before .before .before .before .before .before .before .before .before .is-net .result) (c .before .before .before .before .before .before .before .before .before .before .before .before .if1 .left)) (marked c .0)
 
 room : (c : Read) → length (c .no-numbers3 .result) ≡ 256
 room c = ap length (c .no-numbers3 .ensures) ∙ length-replicate {A = ℕ} 256 0
