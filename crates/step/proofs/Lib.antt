@@ -15,3 +15,4 @@ pub mod FireCall
 pub mod EnabledTurns
 pub mod Checked
 pub mod EnabledCall
+pub mod Determined
