@@ -1,0 +1,66 @@
+-- `enabled`: each answer, with the list that it leaves, is a law of `EnabledCall` at what the checks so far have told.
+use Prim.Native.Nat.{ℕ, _≤_}
+use mathlib.Core.Path.{_≡_, refl, sym, subst, _∙_}
+use mathlib.Core.Bool.{true}
+use native.Mathlib.Omega.{arith}
+use borrow.Author.Needs.{needs}
+use borrow.Author.Tests.{not-true, not-false}
+use lib.ListN.{length, take}
+use lib.Seq.{length-take-le}
+use lib.Dec.{leb}
+use Rattle.field.specs.Lists.{all}
+use Rattle.net.specs.Lent.{lent}
+use Rattle.step.specs.Naming.{InOrder}
+use Rattle.step.proofs.Checked.{marking-good, lent-order}
+use Rattle.step.proofs.EnabledCall.{no-net-lent, no-marking-lent, no-room-lent, stuck-lent, many-lent}
+use Rattle.step.proofs.enabled.Statement.{statement}
+use Rattle.step.proofs.enabled.Tie as tie
+use Rattle.step.proofs.enabled.Reads as reads
+use Rattle.step.proofs.enabled.Lts as lts
+use Rattle.net.proofs.is_net.Reads as is-net-reads
+use Rattle.net.proofs.tokens.is_marking.Reads as is-marking-reads
+use Rattle.step.proofs.listing.count.Reads as count-reads
+use Rattle.step.proofs.listing.write.Reads as write-reads
+
+-- where both checks were passed
+abbrev Passed : Type 0
+Passed = lts.After-tokens (is-net-reads.Asked, is-net-reads.Learnt, is-marking-reads.Asked, is-marking-reads.Learnt, count-reads.Asked, count-reads.Learnt, write-reads.Asked, write-reads.Learnt) reads.Pre reads.Post
+
+marked : (c : Passed) → (c .before .before .before .before .before .before .before .before .before .before .args .places ≤ length (c .before .before .before .before .before .before .before .before .before .before .args .marking .now)) × (all (λ x. leb x 1) (take (c .before .before .before .before .before .before .before .before .before .before .args .places) (c .before .before .before .before .before .before .before .before .before .before .args .marking .now)) ≡ true)
+marked c = marking-good (c .before .before .before .before .before .before .before .before .before .before .args .places) (c .before .before .before .before .before .before .before .before .before .before .args .marking .now) (c .before .before .is-marking .result) (c .before .before .is-marking .ensures) (not-false (c .before .before .is-marking .result) (c .before .if2 .left))
+
+order : (c : Passed) → InOrder (c .before .before .before .before .before .before .before .before .before .before .args .rows .now) (c .before .before .before .before .before .before .before .before .before .before .args .arcs .now) (c .before .before .before .before .before .before .before .before .before .before .args .transitions) (length (take (c .before .before .before .before .before .before .before .before .before .before .args .places) (c .before .before .before .before .before .before .before .before .before .before .args .marking .now)))
+order c =
+    let a = c .before .before .before .before .before .before .before .before .before .before .args in
+    lent-order (a .kinds .now) (a .rows .now) (a .arcs .now) (a .places) (a .transitions) (a .arc-count) (a .marking .now) (c .before .before .before .before .is-net .result) (c .before .before .before .before .is-net .ensures) (not-false (c .before .before .before .before .is-net .result) (c .before .before .before .if1 .left)) (marked c .0)
+
+pub enabled-spec : {M : Type 1} → statement M
+enabled-spec =
+    tie.close
+    (tie.spec
+    (λ c κs. search needs)
+    (λ c.
+    let a = c .before .before .before .before .before .before .before .args in
+    no-net-lent (lent (a .kinds .now) (a .rows .now) (a .arcs .now) (a .places) (a .transitions) (a .arc-count)) (a .marking .now) (a .out .now) (c .before .is-net .result) (c .before .is-net .ensures) (not-true (c .before .is-net .result) (c .if1 .taken)))
+    (λ c κs. search needs)
+    (λ c.
+    let a = c .before .before .before .before .before .before .before .before .before .args in
+    no-marking-lent (lent (a .kinds .now) (a .rows .now) (a .arcs .now) (a .places) (a .transitions) (a .arc-count)) (a .marking .now) (a .out .now) (c .before .before .before .is-net .result) (c .before .before .before .is-net .ensures) (not-false (c .before .before .before .is-net .result) (c .before .before .if1 .left))
+    (c .before .is-marking .result) (c .before .is-marking .ensures) (not-true (c .before .is-marking .result) (c .if2 .taken)))
+    (λ c. sym (length-take-le _ _ (marked c .0)))
+    (λ c κs. (order c, marked c .1))
+    (λ c.
+    let p = c .before .before in let a = p .before .before .before .before .before .before .before .before .before .before .args in
+    no-room-lent (lent (a .kinds .now) (a .rows .now) (a .arcs .now) (a .places) (a .transitions) (a .arc-count)) (a .marking .now) (a .out .now) (p .before .before .before .before .is-net .result) (p .before .before .before .before .is-net .ensures) (not-false (p .before .before .before .before .is-net .result) (p .before .before .before .if1 .left))
+    (p .before .before .is-marking .result) (p .before .before .is-marking .ensures) (not-false (p .before .before .is-marking .result) (p .before .if2 .left)) (c .before .count .result) (c .before .count .ensures) (c .if3 .taken))
+    (λ c κs. (order (c .before .before .before), (marked (c .before .before .before) .1, omega (arith, c .before .before .count .ensures, c .before .if3 .left))))
+    (λ c. search needs)
+    (λ c.
+    let p = c .before .before .before .before .before .before .before in let a = p .before .before .before .before .before .before .before .before .before .before .args in
+    stuck-lent (lent (a .kinds .now) (a .rows .now) (a .arcs .now) (a .places) (a .transitions) (a .arc-count)) (a .marking .now) (a .out .now) (p .before .before .before .before .is-net .result) (p .before .before .before .before .is-net .ensures) (not-false (p .before .before .before .before .is-net .result) (p .before .before .before .if1 .left))
+    (p .before .before .is-marking .result) (p .before .before .is-marking .ensures) (not-false (p .before .before .is-marking .result) (p .before .if2 .left)) (c .before .before .before .before .before .before .count .result) (c .before .before .before .before .before .before .count .ensures) (c .before .before .before .before .before .if3 .left) _ (c .before .before .before .write .ensures) (c .if4 .taken))
+    (λ c. search needs)
+    (λ c.
+    let p = c .before .before .before .before .before .before .before in let a = p .before .before .before .before .before .before .before .before .before .before .args in
+    many-lent (lent (a .kinds .now) (a .rows .now) (a .arcs .now) (a .places) (a .transitions) (a .arc-count)) (a .marking .now) (a .out .now) (p .before .before .before .before .is-net .result) (p .before .before .before .before .is-net .ensures) (not-false (p .before .before .before .before .is-net .result) (p .before .before .before .if1 .left))
+    (p .before .before .is-marking .result) (p .before .before .is-marking .ensures) (not-false (p .before .before .is-marking .result) (p .before .if2 .left)) (c .before .before .before .before .before .before .count .result) (c .before .before .before .before .before .before .count .ensures) (c .before .before .before .before .before .if3 .left) _ (c .before .before .before .write .ensures) (c .if4 .left)))

@@ -1,0 +1,83 @@
+// Finds the transitions that a step's items name, and fires them: 31, and then 32, 33, 36.
+ghost use mathlib.Core.Path.{_≡_};
+ghost use mathlib.Core.Bool.{true};
+ghost use mathlib.Core.List.{List};
+ghost use Prim.Native.Nat.{ℕ, _*_, _<_, _≤_};
+ghost use lib.ListN.{length, getD};
+ghost use lib.Dec.{leb};
+ghost use Rattle.field.specs.Lists.{all};
+ghost use Rattle.algebra.specs.Firing.{transitions-named, fire-items};
+ghost use Rattle.step.specs.FormSays.{paired};
+ghost use Rattle.step.specs.Naming.{transitions-within, seek, found-says, InOrder};
+ghost use Rattle.step.specs.Says.{Moves};
+use crate::Fired;
+use crate::moving;
+
+// The first transition, of so many, that has these two actions; the number of transitions where there is none.
+fn find(rows: &[u16], transitions: usize, first: usize, second: usize) -> usize
+    requires { ⌜ 6 * transitions ≤ length (now rows) ⌝ }
+    ensures { λ r. ⌜ r ≡ seek (now (rows .entry)) first second 0 transitions ⌝ }
+{
+    let mut t: usize = 0;
+    while t < transitions {
+        if (first == net::rows::number(rows, t, 1)) & (second == net::rows::number(rows, t, 2)) {
+            return t;
+        } else {
+            t += 1;
+        }
+    }
+    t
+}
+
+// How many items come before the first that names no transition. What the others name is written.
+fn find_items(
+    rows: &[u16],
+    transitions: usize,
+    firsts: &[u16],
+    seconds: &[u16],
+    ts: &mut [u16],
+) -> usize
+    requires { ⌜ (transitions ≤ 1024) × (6 * transitions ≤ length (now rows)) ⌝ }
+    requires { ⌜ (length (now firsts) ≡ length (now seconds)) × (length (now firsts) ≡ length (now ts)) ⌝ }
+    ensures says { λ r. ⌜ ((arcs : List ℕ) → found-says (now (rows .entry)) arcs (length (now (firsts .entry))) r (now (ts .exit)) ≡ transitions-named (transitions-within (now (rows .entry)) arcs transitions) 0 (paired (now (firsts .entry)) (now (seconds .entry)))) ⌝ }
+    ensures fits { λ r. ⌜ (length (now (firsts .entry)) ≤ r → (i : ℕ) → i < length (now (firsts .entry)) → getD (now (ts .exit)) i 0 < transitions) ⌝ }
+{
+    let mut i = 0;
+    while i < firsts.len() {
+        let t = find(
+            rows,
+            transitions,
+            moving::wide(firsts[i]),
+            moving::wide(seconds[i]),
+        );
+        if t < transitions {
+            ts[i] = t as u16;
+            i += 1;
+        } else {
+            return i;
+        }
+    }
+    i
+}
+
+// A step's items, given by two lists of actions, at the net's part of a marking. `ts` is room for their transitions.
+pub fn fire_items(
+    rows: &[u16],
+    arcs: &[u16],
+    transitions: usize,
+    firsts: &[u16],
+    seconds: &[u16],
+    ts: &mut [u16],
+    marking: &mut [u8],
+) -> Fired
+    requires { ⌜ InOrder (now rows) (now arcs) transitions (length (now marking)) ⌝ }
+    requires { ⌜ all (λ x. leb x 1) (now marking) ≡ true ⌝ }
+    requires { ⌜ (length (now firsts) ≡ length (now seconds)) × (length (now firsts) ≡ length (now ts)) ⌝ }
+    ensures { λ r. ⌜ Moves r (now (marking .entry)) (now (marking .exit)) (fire-items (transitions-within (now (rows .entry)) (now (arcs .entry)) transitions) (now (marking .entry)) (paired (now (firsts .entry)) (now (seconds .entry)))) ⌝ }
+{
+    let found = find_items(rows, transitions, firsts, seconds, ts);
+    if found < firsts.len() {
+        return Fired::Refused(field::NO_TRANSITION, found);
+    }
+    moving::move_tokens(rows, arcs, marking, ts)
+}
