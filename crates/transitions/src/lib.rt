@@ -17,6 +17,7 @@ ghost use Rattle.plan.specs.Table.{Table, Node};
 ghost use Rattle.transitions.specs.Numbers.{Fits, ListIs};
 ghost use Rattle.transitions.specs.Listing.{Lists, Operands, AllNamed, all-actions, all-transitions};
 use parting::ACTION;
+use parting::BYTE;
 use parting::FIRST;
 use parting::SCOPE;
 use plan::exclusive::AFTER;
@@ -24,11 +25,11 @@ use plan::exclusive::TAG;
 use plan::exclusive::number_at;
 use plan::exclusive::row_number;
 
-const BYTE: usize = 1;
+// A list of more transitions than there may be actions and transitions together has more joined pairs than there may be transitions,
+// and no scope takes a pair away.
+pub const MOST: usize = field::ACTION_LIMIT + field::TRANSITION_LIMIT;
 
-// There are at most 256 actions, and at most 1,024 joined pairs are wanted: three numbers to a transition.
-pub const MOST: usize = 1280;
-
+// Three numbers to a transition.
 pub const LIST: usize = 3 * MOST;
 
 // "second action or 65,535"

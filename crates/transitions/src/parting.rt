@@ -9,6 +9,9 @@ use plan::exclusive::AFTER;
 use plan::exclusive::TAG;
 use plan::exclusive::row_number;
 
+// The numbers of a row that are asked for, and the tags.
+pub const BYTE: usize = 1;
+
 pub const FIRST: usize = 4;
 
 pub const ACTION: usize = 1;
