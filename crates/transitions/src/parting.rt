@@ -55,6 +55,7 @@ pub fn part_at_parallel(rows: &[u16; 8196], k: usize, i: usize, j: usize) -> boo
     ensures { λ r. ⌜ ((count n at : ℕ) (E : Expr) → Node (now (rows .entry)) count k n at E → r ≡ part-at-parallel n E i j) ⌝ }
 {
     let next = operand_of(rows, k, i);
+    // An action has no operand: the two are one. As every turn goes to a higher number, the walk ends on any rows.
     if next <= k {
         return false;
     }
