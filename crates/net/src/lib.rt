@@ -13,12 +13,10 @@ mod chains;
 mod kinds;
 mod pairs;
 mod rows;
-mod tokens;
+pub mod tokens;
 
 pub use chains::index_by_first;
 pub use rows::number;
-pub use tokens::has_room;
-pub use tokens::is_marking;
 
 // No count is over its limit. Only behind this test may counts be multiplied: a lent count can be any number.
 fn counts_fit(places: usize, transitions: usize, arc_count: usize) -> bool

@@ -20,7 +20,7 @@ fn find(rows: &[u16], transitions: usize, first: usize, second: usize) -> usize
 {
     let mut t: usize = 0;
     while t < transitions {
-        if (first == net::rows::number(rows, t, 1)) & (second == net::rows::number(rows, t, 2)) {
+        if (first == net::number(rows, t, 1)) & (second == net::number(rows, t, 2)) {
             return t;
         } else {
             t += 1;

@@ -27,10 +27,10 @@ pub fn side<'a>(rows: &[u16], arcs: &'a [u16], t: usize, out: bool) -> &'a [u16]
     requires { ⌜ (6 * t + 6 ≤ length (now rows)) × (in-row (now rows) t 3 + (in-row (now rows) t 4 + in-row (now rows) t 5) ≤ length (now arcs)) ⌝ }
     ensures { λ r. ⌜ now r ≡ side-of out (now (rows .entry)) (now (arcs .entry)) t ⌝ }
 {
-    let start = net::rows::number(rows, t, 3);
-    let middle = start + net::rows::number(rows, t, 4);
+    let start = net::number(rows, t, 3);
+    let middle = start + net::number(rows, t, 4);
     if out {
-        let end = middle + net::rows::number(rows, t, 5);
+        let end = middle + net::number(rows, t, 5);
         return &arcs[middle..end];
     }
     &arcs[start..middle]

@@ -1,15 +1,14 @@
 -- The three numbers of each transition: how many they are, where they stand in a list, and what a store of three leaves.
 -- True by recursion on the transitions, and because a store changes nothing before it and behind it.
-use Prim.Native.Nat.{ℕ, zero, suc, _+_, _*_, _≤_, _<_}
+use Prim.Native.Nat.{ℕ, _+_, _*_, _≤_, _<_}
 use native.Mathlib.Omega.{arith}
 use native.Mathlib.Numerals.{add-one, add-two}
 use mathlib.Core.Path.{_≡_, refl, sym, _∙_, ap, subst}
 use mathlib.Core.List.{List, [], _∷_, _++_}
-use lib.ListN.{length, getD, take, drop, set, length-append, length-take, length-set}
-use lib.Seq.{sets, sets-eq, take-at, getD-set-other, length-take-le}
+use lib.ListN.{length, getD, take, drop, set, length-append, length-set}
+use lib.Seq.{sets-eq, take-at, getD-set-other, length-take-le}
 use Rattle.algebra.specs.Item.{first}
 use Rattle.algebra.specs.Transitions.{Labelled}
-use Rattle.plan.specs.Table.{Stands}
 use Rattle.plan.proofs.Stands.{stands-second, stands-at}
 use Rattle.transitions.specs.Numbers.{flat, second}
 use Rattle.transitions.specs.Listing.{Part, Stored}

@@ -1,19 +1,16 @@
 -- A turn of the loops that join the pairs of a scope.
 -- True because a turn takes the first action of those that are left, as the definitions do.
-use Prim.Native.Nat.{ℕ, suc, _+_, _*_, _≤_, _<_}
+use Prim.Native.Nat.{ℕ, suc, _+_, _≤_, _<_}
 use native.Mathlib.Omega.{arith}
 use native.Mathlib.Numerals.{add-one}
 use mathlib.Core.Path.{_≡_, refl, sym, _∙_, ap, subst}
 use mathlib.Core.Bool.{Bool, true, false, cond}
 use mathlib.Core.List.{List, [], _∷_, _++_}
-use lib.ListN.{length, getD, take, drop, length-append, drop-of-length-le}
+use lib.ListN.{length, getD, drop, length-append, drop-of-length-le}
 use lib.Seq.{drop-cons, getD-take}
-use Rattle.algebra.specs.Transitions.{Labelled}
-use Rattle.transitions.specs.Listing.{Stored, Found, Held, Lists, pairs, pairs-with, pairs-of, joined-pair}
-use Rattle.transitions.specs.declared.Listed.{Listed}
-use Rattle.transitions.specs.declared.Listed.the-variants.{Many, TooMany}
+use Rattle.transitions.specs.Listing.{Stored, Found, Held, pairs, pairs-with, pairs-of, joined-pair}
 use Rattle.transitions.proofs.StillToCome.{Left, all-held, one-stored, some-held}
-use Rattle.transitions.proofs.Weights.{pairs-with-all, pairs-of-all, pairs-within}
+use Rattle.transitions.proofs.Weights.{pairs-with-all, pairs-of-all}
 
 found-over : {list is : List ℕ} {count u : ℕ} → Found count list is → count ≤ u → drop u is ≡ []
 found-over {is = is} {u = u} f h = drop-of-length-le is {i = u} (omega (arith, f .count))

@@ -1,7 +1,7 @@
 -- What a scope joins, over the numbers of the actions: for each action labelled a, the pairs with those labelled a+128 that part from it.
 -- True by recursion on the one list, and for each on the other.
 use Prim.Native.Nat.{ℕ, _+_}
-use mathlib.Core.Path.{_≡_, refl, sym, _∙_, ap}
+use mathlib.Core.Path.{_≡_, refl, _∙_, ap}
 use mathlib.Core.Bool.{Bool, true, false, cond}
 use mathlib.Core.List.{List, [], _∷_, _++_, map, map-append}
 use Rattle.algebra.specs.Expr.{Expr}

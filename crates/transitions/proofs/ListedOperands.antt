@@ -4,15 +4,14 @@ use Prim.Native.Nat.{ℕ, _+_, _*_, _≤_, _<_}
 use native.Mathlib.Omega.{arith}
 use mathlib.Core.Path.{_≡_, refl, sym, _∙_, ap, subst}
 use mathlib.Core.List.{List, [], _∷_, _++_, append-nil}
-use lib.ListN.{length, getD, take, length-append}
+use lib.ListN.{length, getD, take}
 use lib.Seq.{getD-take, getD-append-add, length-take-le, take-take, take-at}
 use Rattle.algebra.specs.Expr.{Expr, action, sequence, choice, parallel, loop, scope, actions}
 use Rattle.algebra.specs.Scopes.{ScopesNamed}
 use Rattle.algebra.specs.Transitions.{Labelled, transitions}
 use Rattle.plan.specs.Nodes.{numbers, nodes, node-count}
-use Rattle.plan.specs.Table.{Node, tag-at, after-at}
+use Rattle.plan.specs.Table.{Node, tag-at}
 use Rattle.plan.proofs.NodeTable.{node-says, sequence-operands, choice-operands, parallel-operands, loop-operands, scope-operand}
-use Rattle.plan.proofs.NodeValues.{node-count-positive}
 use Rattle.transitions.specs.Numbers.{flat}
 use Rattle.transitions.specs.Parting.{first-at}
 use Rattle.transitions.specs.Listing.{Part, Stored, Held, Lists, pairs, Operands, AllNamed, all-actions, all-transitions}
@@ -20,8 +19,8 @@ use Rattle.transitions.specs.declared.Listed.{Listed}
 use Rattle.transitions.specs.declared.Listed.the-variants.{Many, TooMany}
 use Rattle.transitions.proofs.FlatNumbers.{flat-length}
 use Rattle.transitions.proofs.WhereActionsPart.{node-first}
-use Rattle.transitions.proofs.Weights.{scope-pairs, transitions-weight}
-use Rattle.transitions.proofs.StillToCome.{Left, nothing-yet, one-stored, all-held, held-then, too-many-then, many-held, too-many}
+use Rattle.transitions.proofs.Weights.{scope-pairs}
+use Rattle.transitions.proofs.StillToCome.{nothing-yet, one-stored, all-held, many-held, too-many}
 
 -- The operands of a field.
 abbrev operands-of : Expr → List Expr

@@ -1,9 +1,9 @@
 -- The four steps that close a scope leave the transitions of the scope: the labelled ones are gathered, the rest is kept, the pairs are joined.
 -- True because the gathered ones are single actions, few enough for their room, and what is joined is what the definition joins.
-use Prim.Native.Nat.{ℕ, _+_, _*_, _≤_, _<_}
+use Prim.Native.Nat.{ℕ, _+_, _*_, _≤_}
 use native.Mathlib.Omega.{arith}
-use mathlib.Core.Path.{_≡_, refl, sym, _∙_, ap, subst}
-use mathlib.Core.List.{List, [], _∷_, _++_}
+use mathlib.Core.Path.{_≡_, sym, _∙_, subst}
+use mathlib.Core.List.{List, _++_}
 use lib.ListN.{length, getD}
 use Rattle.algebra.specs.Expr.{Expr, actions, scope}
 use Rattle.algebra.specs.Scopes.{ScopesNamed}

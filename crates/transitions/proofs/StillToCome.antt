@@ -12,7 +12,7 @@ use Rattle.transitions.specs.Listing.{Stored, Held, Lists, pairs}
 use Rattle.transitions.specs.declared.Listed.{Listed}
 use Rattle.transitions.specs.declared.Listed.the-variants.{Many, TooMany}
 use Rattle.transitions.proofs.FlatNumbers.{flat-append}
-use Rattle.transitions.proofs.Weights.{pairs-append, pairs-within}
+use Rattle.transitions.proofs.Weights.{pairs-append}
 
 -- At entry the list holds n₀ transitions, and all of these are to come; now it holds n, and the rest is to come.
 pub record Left (entry : List ℕ) (n₀ : ℕ) (list : List ℕ) (n : ℕ) (all rest : List Labelled) : Type 0 where

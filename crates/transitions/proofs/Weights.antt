@@ -1,13 +1,13 @@
 -- How long a list of transitions can be: no longer than the actions and the joined pairs together; and no scope takes a pair away.
 -- True because every other transition is a single action of its own, and because a pair is silent while a scope's byte is at least 1.
-use Prim.Native.Nat.{ℕ, _+_, _*_, _≤_, _<_}
+use Prim.Native.Nat.{ℕ, _+_, _≤_}
 use native.Mathlib.Omega.{arith}
-use mathlib.Core.Path.{_≡_, refl, sym, _∙_, ap, subst}
+use mathlib.Core.Path.{_≡_, refl, _∙_}
 use mathlib.Core.Bool.{Bool, true, false, cond, not, _&&_}
-use mathlib.Core.List.{List, [], _∷_, _++_, map, List·Memᴰ, List·Memᴰ·head, List·Memᴰ·tail}
+use mathlib.Core.List.{List, [], _∷_, _++_, List·Memᴰ, List·Memᴰ·head, List·Memᴰ·tail}
 use lib.ListN.{length, length-append, length-map}
-use lib.Dec.{T, eqb, eqb→eq}
-use borrow.Author.Tests.{eqb-true, ne-eqb}
+use lib.Dec.{eqb}
+use borrow.Author.Tests.{eqb-true}
 use Rattle.algebra.specs.Expr.{Expr, action, sequence, choice, parallel, loop, scope, actions, label}
 use Rattle.algebra.specs.Item.{Item, one, two, first}
 use Rattle.algebra.specs.Transitions.{Labelled, select, labelled, stays, kept, joined, transitions, part-at-parallel}

@@ -1,17 +1,16 @@
 -- The walk down the node table finds where two actions part: while both are in one operand they part where they do there, and else here.
 -- True because the first action of an operand's row is the number that the definition compares with.
-use Prim.Native.Nat.{ℕ, _+_, _*_, _≤_, _<_}
+use Prim.Native.Nat.{ℕ, _+_, _≤_, _<_}
 use native.Mathlib.Omega.{arith}
 use mathlib.Core.Path.{_≡_, refl, sym, _∙_, ap, subst}
 use mathlib.Core.Bool.{Bool, true, false, cond}
 use mathlib.Core.List.{List}
-use lib.ListN.{getD}
 use lib.Dec.{eqb, ltb, leb}
 use Rattle.algebra.specs.Expr.{Expr, action, sequence, choice, parallel, loop, scope, actions}
 use Rattle.algebra.specs.Transitions.{where-both, part-at-parallel}
 use Rattle.plan.specs.Nodes.{numbers, nodes, node-count}
-use Rattle.plan.specs.Table.{Stands, Node, tag-at, after-at}
-use Rattle.plan.proofs.NodeTable.{tag-of, node-says, sequence-operands, choice-operands, parallel-operands, loop-operands, scope-operand}
+use Rattle.plan.specs.Table.{Node, tag-at, after-at}
+use Rattle.plan.proofs.NodeTable.{node-says, sequence-operands, choice-operands, parallel-operands, loop-operands, scope-operand}
 use Rattle.plan.proofs.NodeValues.{node-count-positive}
 use Rattle.transitions.specs.Parting.{first-at, operand-by}
 

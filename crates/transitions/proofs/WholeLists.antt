@@ -8,12 +8,12 @@ use lib.ListN.{length, take, drop}
 use Rattle.field.specs.Limits.{transition-limit}
 use Rattle.algebra.specs.Expr.{Expr, actions}
 use Rattle.algebra.specs.Scopes.{ScopesNamed}
-use Rattle.algebra.specs.Transitions.{Labelled, transitions}
+use Rattle.algebra.specs.Transitions.{transitions}
 use Rattle.plan.specs.Nodes.{node-count}
 use Rattle.plan.specs.Table.{Table, Node, after-at}
 use Rattle.plan.proofs.NodeTable.{node-says}
 use Rattle.plan.proofs.NodeValues.{node-count-positive, table-node}
-use Rattle.transitions.specs.Numbers.{flat, ListIs}
+use Rattle.transitions.specs.Numbers.{flat}
 use Rattle.transitions.specs.Listing.{Held, Lists, pairs, Operands, AllNamed, all-actions, all-transitions}
 use Rattle.transitions.specs.declared.Listed.{Listed}
 use Rattle.transitions.specs.declared.Listed.the-variants.{Many, TooMany}

@@ -10,7 +10,7 @@ use Rattle.algebra.specs.Scopes.{ScopesNamed}
 use Rattle.algebra.specs.Transitions.{Labelled, select, labelled, transitions}
 use Rattle.plan.specs.Nodes.{node-count}
 use Rattle.plan.specs.Table.{Stands, Node}
-use Rattle.transitions.specs.Numbers.{flat}
+use Rattle.transitions.specs.Numbers.{flat, most}
 use Rattle.transitions.specs.declared.Listed.{Listed}
 use Rattle.transitions.specs.declared.Listed.the-variants.{Many, TooMany}
 
@@ -53,7 +53,7 @@ pub record Held (m n : ℕ) (ts : List Labelled) (entry exit : List ℕ) : Type 
 -- Behind the first n transitions these are listed; or the list has no room for n, for so many single actions, and for the pairs.
 abbrev pub Lists : Listed → ℕ → ℕ → List Labelled → List ℕ → List ℕ → Type 0
 Lists (Many m) n few ts entry exit = Held m n ts entry exit
-Lists TooMany n few ts entry exit = 1280 < n + (few + pairs ts)
+Lists TooMany n few ts entry exit = most < n + (few + pairs ts)
 
 abbrev pub joined-pair : ℕ → ℕ → Labelled
 joined-pair i j = record { label = 0; item = two i j }

@@ -1,9 +1,9 @@
 -- 01, "Net tables": a transition's "label, first action, second action or 65,535"; and what the list of a plan's transitions is to be.
-use Prim.Native.Nat.{ℕ, _*_, _≤_, _<_}
+use Prim.Native.Nat.{ℕ, _+_, _*_, _≤_, _<_}
 use mathlib.Core.Path.{_≡_}
 use mathlib.Core.List.{List, [], _∷_, _++_}
 use lib.ListN.{length, drop}
-use Rattle.field.specs.Limits.{transition-limit}
+use Rattle.field.specs.Limits.{action-limit, transition-limit}
 use Rattle.algebra.specs.Item.{Item, one, two, first}
 use Rattle.algebra.specs.Transitions.{Labelled}
 use Rattle.transitions.specs.declared.Listed.{Listed}
@@ -25,6 +25,9 @@ ListIs (Many n) ts entry exit = (n ≡ length ts) × (exit ≡ flat ts ++ drop (
 ListIs TooMany ts entry exit = (transition-limit < length ts) × (exit ≡ entry)
 
 -- As many as the list has room for.
+abbrev pub most : ℕ
+most = action-limit + transition-limit
+
 abbrev pub Fits : Listed → Type 0
-Fits (Many n) = n ≤ 1280
+Fits (Many n) = n ≤ most
 Fits TooMany = Unit {0}

@@ -16,18 +16,20 @@ ghost use Rattle.plan.specs.Nodes.{node-count};
 ghost use Rattle.plan.specs.Table.{Table, Node};
 ghost use Rattle.transitions.specs.Numbers.{Fits, ListIs};
 ghost use Rattle.transitions.specs.Listing.{Lists, Operands, AllNamed, all-actions, all-transitions};
+use plan::tags::BYTE;
 use plan::exclusive::number_at;
 use plan::exclusive::row_number;
 use plan::tags::ACTION;
 use plan::tags::AFTER;
-use plan::tags::BYTE;
 use plan::tags::FIRST;
 use plan::tags::SCOPE;
 use plan::tags::TAG;
 
-// There are at most 256 actions, and at most 1,024 joined pairs are wanted: three numbers to a transition.
-pub const MOST: usize = 1280;
+// A list of more transitions than there may be actions and transitions together has more joined pairs than there may be transitions,
+// and no scope takes a pair away.
+pub const MOST: usize = field::ACTION_LIMIT + field::TRANSITION_LIMIT;
 
+// Three numbers to a transition.
 pub const LIST: usize = 3 * MOST;
 
 // "second action or 65,535"

@@ -8,12 +8,14 @@ ghost use Rattle.transitions.specs.Parting.{operand-by};
 use plan::exclusive::row_number;
 use plan::tags::ACTION;
 use plan::tags::AFTER;
+use plan::tags::BYTE;
 use plan::tags::FIRST;
 use plan::tags::LOOP;
 use plan::tags::PARALLEL;
 use plan::tags::SCOPE;
 use plan::tags::TAG;
 
+// The numbers of a row that are asked for, and the tags.
 // The number of the operand of node k that holds action i; of a node with no operand its own number. Past the table every number
 // is 0, so that no number behind the table is given.
 fn operand_of(rows: &[u16; 8196], k: usize, i: usize) -> usize
@@ -47,6 +49,7 @@ pub fn part_at_parallel(rows: &[u16; 8196], k: usize, i: usize, j: usize) -> boo
     ensures { λ r. ⌜ ((count n at : ℕ) (E : Expr) → Node (now (rows .entry)) count k n at E → r ≡ part-at-parallel n E i j) ⌝ }
 {
     let next = operand_of(rows, k, i);
+    // An action has no operand: the two are one. As every turn goes to a higher number, the walk ends on any rows.
     if next <= k {
         return false;
     }

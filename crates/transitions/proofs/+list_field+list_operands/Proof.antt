@@ -1,13 +1,11 @@
 -- `list_field` and `list_operands` meet their contracts, the nodes left falling. Every return is one law on plain values, applied to what is known there.
 -- Assumes nothing.
-use Prim.Native.Nat.{ℕ, _+_, _*_, _-_, _<_, _≤_}
+use Prim.Native.Nat.{ℕ, _+_, _*_, _-_, _<_}
 use native.Mathlib.Omega.{arith}
-use mathlib.Core.Path.{_≡_, sym, _∙_}
-use mathlib.Core.List.{List}
+use mathlib.Core.Path.{sym, _∙_}
 use borrow.Author.Needs.{needs}
 use borrow.Fn.Kinds.{In}
 use borrow.Fn.PlainCycle.{Measures, is, falls, and}
-use Rattle.algebra.specs.Expr.{Expr}
 use Rattle.plan.proofs.exclusive.row_number.Reads as row-number-reads
 use Rattle.plan.proofs.exclusive.number_at.Reads as number-at-reads
 use Rattle.transitions.proofs.StillToCome.{many-fit}

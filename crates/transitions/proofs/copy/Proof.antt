@@ -1,6 +1,6 @@
 -- `copy` meets its contract. The loop's invariant: what is copied stands in front of what is left.
 -- The measure is what is left to copy. Assumes nothing.
-use Prim.Native.Nat.{ℕ, _≤_, _-_}
+use Prim.Native.Nat.{_≤_, _-_}
 use native.Mathlib.Omega.{arith}
 use mathlib.Core.Path.{_≡_, refl, _∙_, ap}
 use mathlib.Core.List.{_++_}
@@ -19,24 +19,18 @@ abbrev μ-loop : tie.MeasureT-loop
 loop-holds : tie.Need-loop-holds Inv-loop μ-loop
 loop-holds c = (search needs, refl)
 
-number-at-requires : tie.Need-number-at-requires Inv-loop μ-loop
-number-at-requires c κs = search needs
-
-put-number-requires : tie.Need-put-number-requires Inv-loop μ-loop
-put-number-requires c κs = search needs
-
-add-i : tie.Need-add-i Inv-loop μ-loop
-add-i c = search needs
-
-loop-less : tie.Need-loop-less Inv-loop μ-loop
-loop-less c = search needs
-
 loop-again : tie.Need-loop-again Inv-loop μ-loop
 loop-again c =
-    (search needs, one-copied (c .before .before .before .before .before .before .args .from .now) (c .before .before .before .before .before .before .args .to .now) (c .before .before .before .before .before .loop .i) (omega (arith, c .before .before .number-at-arg .given)) (omega (arith, c .before .before .number-at-arg .given, c .before .before .before .put-number-arg .given)) (c .before .before .before .before .before .loop .inv .1) (c .before .number-at .ensures) (c .put-number .ensures))
+    let a = c .before .before .before .before .before .before .args in
+    let l = c .before .before .before .before .before .loop in
+    (search needs, one-copied (a .from .now) (a .to .now) (l .i) (omega (arith, c .before .before .number-at-arg .given)) (omega (arith, c .before .before .number-at-arg .given, c .before .before .before .put-number-arg .given)) (l .inv .1) (c .before .number-at .ensures) (c .put-number .ensures))
 
 returns : tie.Need-returns Inv-loop μ-loop
-returns c = let e : c .before .loop .i ≡ c .before .before .args .n = omega arith in c .before .loop .inv .1 ∙ ap (λ m. take m (c .before .before .args .from .now) ++ drop m (c .before .before .args .to .now)) e
+returns c =
+    let a = c .before .before .args in
+    let l = c .before .loop in
+    let e : l .i ≡ a .n = omega arith in
+    l .inv .1 ∙ ap (λ m. take m (a .from .now) ++ drop m (a .to .now)) e
 
 pub copy-spec : {M : Type 1} → statement M
 copy-spec =
@@ -45,9 +39,9 @@ copy-spec =
     Inv-loop
     μ-loop
     loop-holds
-    number-at-requires
-    put-number-requires
-    add-i
-    loop-less
+    (λ c κs. search needs)
+    (λ c κs. search needs)
+    (λ c. search needs)
+    (λ c. search needs)
     loop-again
     returns)

@@ -2,7 +2,7 @@
 -- Assumes nothing.
 use Prim.Native.Nat.{ℕ}
 use native.Mathlib.Omega.{arith}
-use mathlib.Core.Path.{_≡_, refl, _∙_, ap}
+use mathlib.Core.Path.{refl, _∙_, ap}
 use lib.ListN.{length, length-replicate}
 use Rattle.plan.proofs.Scopes.{named-scopes}
 use Rattle.transitions.proofs.StillToCome.{many-fit}
@@ -10,18 +10,6 @@ use Rattle.transitions.proofs.WholeLists.{plan-too-many, plan-listed}
 use borrow.Author.Needs.{needs}
 use Rattle.transitions.proofs.list_transitions.Statement.{statement}
 use Rattle.transitions.proofs.list_transitions.Tie as tie
-
-blank-requires : tie.Need-blank-requires
-blank-requires c κs = search needs
-
-list-operands-requires : tie.Need-list-operands-requires
-list-operands-requires c κs = search needs
-
-enum-told : tie.Need-enum-told
-enum-told c = search needs
-
-enum-known-n : tie.Need-enum-known-n
-enum-known-n c = search needs
 
 mul-copy : tie.Need-mul-copy
 mul-copy c = omega (arith, many-fit (c .before .before .n .given .1) (c .before .before .before .before .list-operands .ensures .0))
@@ -54,10 +42,10 @@ pub list-transitions-spec : {M : Type 1} → statement M
 list-transitions-spec =
     tie.close
     (tie.spec
-    blank-requires
-    list-operands-requires
-    enum-told
-    enum-known-n
+    (λ c κs. search needs)
+    (λ c κs. search needs)
+    (λ c. search needs)
+    (λ c. search needs)
     mul-copy
     copy-requires
     returns

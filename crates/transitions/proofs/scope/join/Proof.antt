@@ -1,7 +1,6 @@
 -- `join` meets its contract. The loop's invariant: what is held and what is to come are all pairs.
 -- The measure is what is left of the actions. Assumes nothing.
 use Prim.Native.Nat.{ℕ, _≤_, _-_}
-use native.Mathlib.Omega.{arith}
 use mathlib.Core.List.{List}
 use borrow.Author.Needs.{needs}
 use Rattle.algebra.specs.Expr.{Expr}
@@ -24,40 +23,33 @@ abbrev μ-loop : tie.MeasureT-loop
 loop-holds : tie.Need-loop-holds Inv-loop μ-loop
 loop-holds c = (search needs, λ nodes f at E is js w v x. nothing-yet (c .args .list .now) (c .args .n) (pairs-of (part-at-parallel f E) is js))
 
-number-at-requires : tie.Need-number-at-requires Inv-loop μ-loop
-number-at-requires c κs = search needs
-
-join-one-requires : tie.Need-join-one-requires Inv-loop μ-loop
-join-one-requires c κs = search needs
-
-enum-told : tie.Need-enum-told Inv-loop μ-loop
-enum-told c = search needs
-
 returns : tie.Need-returns Inv-loop μ-loop
-returns c = (
-  tt,
-  λ nodes f at E is js w v x. no-more-room (part-at-parallel f E) (c .before .before .before .before .before .before .before .before .args .list .now) (c .before .before .before .before .before .before .before .loop .list) (c .before .before .before .before .before .before .before .before .args .left .now) is js (c .before .before .before .before .before .before .before .before .args .n) (c .before .before .before .before .before .before .before .loop .so-far) (c .before .before .before .before .before .before .before .loop .t) (c .before .before .before .before .before .before .before .before .args .lefts) v (c .before .before .before .before .before .before .loop-test .taken) (c .before .before .before .before .number-at .ensures)
-      (too-many (c .enum-told .given .1) (c .before .before .before .before .before .before .before .loop .so-far) 0 (pairs-with (part-at-parallel f E) (c .before .before .before .before .number-at .result) js) (c .before .before .before .before .before .before .before .loop .list) (c .before .before .join-one .last .1 .1 .1 .1 .1 .0) (c .before .before .join-one .ensures .1 nodes f at E js w x)) (c .before .before .before .before .before .before .before .loop .inv .1 nodes f at E is js w v x),
-)
-
-enum-known-m : tie.Need-enum-known-m Inv-loop μ-loop
-enum-known-m c = search needs
-
-add-t : tie.Need-add-t Inv-loop μ-loop
-add-t c = search needs
-
-loop-less : tie.Need-loop-less Inv-loop μ-loop
-loop-less c = search needs
+returns c =
+    let a = c .before .before .before .before .before .before .before .before .args in
+    let l = c .before .before .before .before .before .before .before .loop in
+    let o = c .before .before .join-one in (
+      tt,
+      λ nodes f at E is js w v x.
+          no-more-room (part-at-parallel f E) (a .list .now) (l .list) (a .left .now) is js (a .n) (l .so-far) (l .t) (a .lefts) v (c .before .before .before .before .before .before .loop-test .taken) (c .before .before .before .before .number-at .ensures)
+          (too-many (c .enum-told .given .1) (l .so-far) 0 (pairs-with (part-at-parallel f E) (c .before .before .before .before .number-at .result) js) (l .list) (o .last .1 .1 .1 .1 .1 .0) (o .ensures .1 nodes f at E js w x)) (l .inv .1 nodes f at E is js w v x),
+    )
 
 loop-again : tie.Need-loop-again Inv-loop μ-loop
-loop-again c = (
-  many-fit (c .before .m .given .1) (c .before .before .before .join-one .ensures .0),
-  λ nodes f at E is js w v x. one-more-joined (part-at-parallel f E) (c .before .before .before .before .before .before .before .before .before .args .list .now) (c .before .before .before .before .before .before .before .before .loop .list) (c .before .before .before .before .before .before .before .before .before .args .left .now) is js (c .before .before .before .before .before .before .before .before .before .args .n) (c .before .before .before .before .before .before .before .before .loop .so-far) (c .before .before .before .before .before .before .before .before .loop .t) (c .before .before .before .before .before .before .before .before .before .args .lefts) v (c .before .before .before .before .before .before .before .loop-test .taken) (c .before .before .before .before .before .number-at .ensures)
-      (many-held (c .before .m .given .1) (c .before .before .before .before .before .before .before .before .loop .so-far) 0 (pairs-with (part-at-parallel f E) (c .before .before .before .before .before .number-at .result) js) (c .before .before .before .before .before .before .before .before .loop .list) (c .before .before .before .join-one .last .1 .1 .1 .1 .1 .0) (c .before .before .before .join-one .ensures .1 nodes f at E js w x)) (c .before .before .before .before .before .before .before .before .loop .inv .1 nodes f at E is js w v x),
-)
+loop-again c =
+    let a = c .before .before .before .before .before .before .before .before .before .args in
+    let l = c .before .before .before .before .before .before .before .before .loop in
+    let o = c .before .before .before .join-one in (
+      many-fit (c .before .m .given .1) (o .ensures .0),
+      λ nodes f at E is js w v x.
+          one-more-joined (part-at-parallel f E) (a .list .now) (l .list) (a .left .now) is js (a .n) (l .so-far) (l .t) (a .lefts) v (c .before .before .before .before .before .before .before .loop-test .taken) (c .before .before .before .before .before .number-at .ensures)
+          (many-held (c .before .m .given .1) (l .so-far) 0 (pairs-with (part-at-parallel f E) (c .before .before .before .before .before .number-at .result) js) (l .list) (o .last .1 .1 .1 .1 .1 .0) (o .ensures .1 nodes f at E js w x)) (l .inv .1 nodes f at E is js w v x),
+    )
 
 returns-2 : tie.Need-returns-2 Inv-loop μ-loop
-returns-2 c = (search needs, λ nodes f at E is js w v x. all-pairs-joined (part-at-parallel f E) (c .before .before .args .list .now) (c .before .loop .list) (c .before .before .args .left .now) is js (c .before .before .args .n) (c .before .loop .so-far) (c .before .loop .t) (c .before .before .args .lefts) v (c .loop-test .left) (c .before .loop .inv .1 nodes f at E is js w v x))
+returns-2 c =
+    let a = c .before .before .args in
+    let l = c .before .loop in
+    (search needs, λ nodes f at E is js w v x. all-pairs-joined (part-at-parallel f E) (a .list .now) (l .list) (a .left .now) is js (a .n) (l .so-far) (l .t) (a .lefts) v (c .loop-test .left) (l .inv .1 nodes f at E is js w v x))
 
 pub join-spec : {M : Type 1} → statement M
 join-spec =
@@ -66,12 +58,12 @@ join-spec =
     Inv-loop
     μ-loop
     loop-holds
-    number-at-requires
-    join-one-requires
-    enum-told
+    (λ c κs. search needs)
+    (λ c κs. search needs)
+    (λ c. search needs)
     returns
-    enum-known-m
-    add-t
-    loop-less
+    (λ c. search needs)
+    (λ c. search needs)
+    (λ c. search needs)
     loop-again
     returns-2)

@@ -1,8 +1,7 @@
 -- `keep` meets its contract. The loop's invariant: what is held and what is to come are all that the scope keeps.
 -- The measure is what is left of the part. Assumes nothing.
-use Prim.Native.Nat.{ℕ, _≤_, _-_}
-use native.Mathlib.Omega.{arith}
-use mathlib.Core.Path.{sym, _∙_}
+use Prim.Native.Nat.{_≤_, _-_}
+use mathlib.Core.Path.{_∙_}
 use mathlib.Core.List.{List}
 use borrow.Author.Needs.{needs}
 use Rattle.algebra.specs.Transitions.{Labelled}
@@ -19,71 +18,28 @@ abbrev μ-loop : tie.MeasureT-loop
 μ-loop list₀ start end name so-far₀ t₀ list so-far t = end - t
 
 loop-holds : tie.Need-loop-holds Inv-loop μ-loop
-loop-holds c = (search needs, search needs, λ ts p. none-kept (c .args .list .now) (c .args .start) (c .args .end) (c .args .name) ts p)
-
-mul-number-at : tie.Need-mul-number-at Inv-loop μ-loop
-mul-number-at c = search needs
-
-number-at-requires : tie.Need-number-at-requires Inv-loop μ-loop
-number-at-requires c κs = search needs
-
-wide-requires : tie.Need-wide-requires Inv-loop μ-loop
-wide-requires c κs = search needs
-
-add-if1 : tie.Need-add-if1 Inv-loop μ-loop
-add-if1 c = search needs
-
-mul-number-at-2 : tie.Need-mul-number-at-2 Inv-loop μ-loop
-mul-number-at-2 c = search needs
-
-add-number-at : tie.Need-add-number-at Inv-loop μ-loop
-add-number-at c = search needs
-
-number-at-requires-2 : tie.Need-number-at-requires-2 Inv-loop μ-loop
-number-at-requires-2 c κs = search needs
-
-mul-number-at-3 : tie.Need-mul-number-at-3 Inv-loop μ-loop
-mul-number-at-3 c = search needs
-
-add-number-at-2 : tie.Need-add-number-at-2 Inv-loop μ-loop
-add-number-at-2 c = search needs
-
-number-at-requires-3 : tie.Need-number-at-requires-3 Inv-loop μ-loop
-number-at-requires-3 c κs = search needs
-
-put-requires : tie.Need-put-requires Inv-loop μ-loop
-put-requires c κs = search needs
-
-add-so-far : tie.Need-add-so-far Inv-loop μ-loop
-add-so-far c = search needs
-
-add-t : tie.Need-add-t Inv-loop μ-loop
-add-t c = search needs
-
-loop-less : tie.Need-loop-less Inv-loop μ-loop
-loop-less c = search needs
+loop-holds c = (search needs, search needs, λ ts p. let a = c .args in none-kept (a .list .now) (a .start) (a .end) (a .name) ts p)
 
 loop-again : tie.Need-loop-again Inv-loop μ-loop
-loop-again c = (
-  search needs,
-  search needs,
-  λ ts p. one-kept (c .before .before .before .before .before .before .before .before .before .before .before .before .before .before .before .args .list .now) (c .before .before .before .before .before .before .before .before .before .before .before .before .before .before .before .args .start) (c .before .before .before .before .before .before .before .before .before .before .before .before .before .before .loop .list) (c .before .before .before .before .before .before .before .before .before .before .before .before .before .before .loop .t) (c .before .before .before .before .before .before .before .before .before .before .before .before .before .before .before .args .end) (c .before .before .before .before .before .before .before .before .before .before .before .before .before .before .before .args .name) (c .before .before .before .before .before .before .before .before .before .before .before .before .before .before .loop .so-far) (c .before .before .before .before .before .before .before .before .before .before .before .before .before .loop-test .taken) (c .before .before .before .before .before .before .before .before .before .before .before .before .before .before .loop .inv .1) (c .put .ensures)
-      (c .before .before .before .before .before .before .before .before .before .wide .ensures .0) (c .before .before .before .before .before .before .before .before .before .before .number-at .ensures) (c .before .before .before .before .before .number-at2 .ensures) (c .before .before .number-at3 .ensures) (c .before .before .before .before .before .before .before .before .if1 .taken) (c .before .before .before .before .before .before .before .before .before .before .before .before .before .before .loop .inv .2 ts p),
-)
-
-add-t-2 : tie.Need-add-t-2 Inv-loop μ-loop
-add-t-2 c = search needs
-
-loop-less-2 : tie.Need-loop-less-2 Inv-loop μ-loop
-loop-less-2 c = search needs
+loop-again c =
+    let a = c .before .before .before .before .before .before .before .before .before .before .before .before .before .before .before .args in
+    let l = c .before .before .before .before .before .before .before .before .before .before .before .before .before .before .loop in (
+      search needs,
+      search needs,
+      λ ts p.
+          one-kept (a .list .now) (a .start) (l .list) (l .t) (a .end) (a .name) (l .so-far) (c .before .before .before .before .before .before .before .before .before .before .before .before .before .loop-test .taken) (l .inv .1) (c .put .ensures) (c .before .before .before .before .before .before .before .before .before .wide .ensures .0)
+          (c .before .before .before .before .before .before .before .before .before .before .number-at .ensures) (c .before .before .before .before .before .number-at2 .ensures) (c .before .before .number-at3 .ensures) (c .before .before .before .before .before .before .before .before .if1 .taken) (l .inv .2 ts p),
+    )
 
 loop-again-2 : tie.Need-loop-again-2 Inv-loop μ-loop
-loop-again-2 c = (
-  search needs,
-  search needs,
-  λ ts p. none-more-kept (c .before .before .before .before .before .before .before .args .list .now) (c .before .before .before .before .before .before .before .args .start) (c .before .before .before .before .before .before .loop .list) (c .before .before .before .before .before .before .loop .t) (c .before .before .before .before .before .before .before .args .end) (c .before .before .before .before .before .before .before .args .name) (c .before .before .before .before .before .before .loop .so-far) (c .before .before .before .before .before .loop-test .taken)
-      (c .before .wide .ensures .0 ∙ c .before .before .number-at .ensures) (c .if1 .left) (c .before .before .before .before .before .before .loop .inv .2 ts p),
-)
+loop-again-2 c =
+    let a = c .before .before .before .before .before .before .before .args in
+    let l = c .before .before .before .before .before .before .loop in (
+      search needs,
+      search needs,
+      λ ts p.
+          none-more-kept (a .list .now) (a .start) (l .list) (l .t) (a .end) (a .name) (l .so-far) (c .before .before .before .before .before .loop-test .taken) (c .before .wide .ensures .0 ∙ c .before .before .number-at .ensures) (c .if1 .left) (l .inv .2 ts p),
+    )
 
 returns : tie.Need-returns Inv-loop μ-loop
 returns c = (search needs, λ ts p. all-kept (c .loop-test .left) (c .before .loop .inv .2 ts p))
@@ -95,22 +51,22 @@ keep-spec =
     Inv-loop
     μ-loop
     loop-holds
-    mul-number-at
-    number-at-requires
-    wide-requires
-    add-if1
-    mul-number-at-2
-    add-number-at
-    number-at-requires-2
-    mul-number-at-3
-    add-number-at-2
-    number-at-requires-3
-    put-requires
-    add-so-far
-    add-t
-    loop-less
+    (λ c. search needs)
+    (λ c κs. search needs)
+    (λ c κs. search needs)
+    (λ c. search needs)
+    (λ c. search needs)
+    (λ c. search needs)
+    (λ c κs. search needs)
+    (λ c. search needs)
+    (λ c. search needs)
+    (λ c κs. search needs)
+    (λ c κs. search needs)
+    (λ c. search needs)
+    (λ c. search needs)
+    (λ c. search needs)
     loop-again
-    add-t-2
-    loop-less-2
+    (λ c. search needs)
+    (λ c. search needs)
     loop-again-2
     returns)
