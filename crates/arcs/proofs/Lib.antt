@@ -1,0 +1,3 @@
+pub mod MoveTold
+pub mod Positions
+pub mod Widens

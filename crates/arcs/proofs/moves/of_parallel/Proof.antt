@@ -1,0 +1,77 @@
+use Rattle.arcs.specs.Moves.{parallel-move}
+use Rattle.arcs.proofs.MoveTold.{both-told, operand-told}
+use borrow.Author.Needs.{needs}
+use Rattle.arcs.proofs.moves.of_parallel.Statement.{statement}
+use Rattle.arcs.proofs.moves.of_parallel.Tie as tie
+use Rattle.arcs.proofs.moves.of_parallel.Reads as reads
+use Rattle.arcs.proofs.moves.of_parallel.Lts as lts
+use Rattle.arcs.proofs.moves.shifted.Reads as shifted-reads
+
+enum-told : tie.Need-enum-told
+enum-told c = search needs
+
+shifted-requires : tie.Need-shifted-requires
+shifted-requires c κs = search needs
+
+enum-told-2 : tie.Need-enum-told-2
+enum-told-2 c = search needs
+
+enum-told-3 : tie.Need-enum-told-3
+enum-told-3 c = search needs
+
+shifted-requires-2 : tie.Need-shifted-requires-2
+shifted-requires-2 c κs = search needs
+
+enum-told-4 : tie.Need-enum-told-4
+enum-told-4 c = search needs
+
+shifted-requires-3 : tie.Need-shifted-requires-3
+shifted-requires-3 c κs = search needs
+
+enum-told-5 : tie.Need-enum-told-5
+enum-told-5 c = search needs
+
+shifted-requires-4 : tie.Need-shifted-requires-4
+shifted-requires-4 c κs = search needs
+
+enum-told-6 : tie.Need-enum-told-6
+enum-told-6 c = search needs
+
+shifted-requires-5 : tie.Need-shifted-requires-5
+shifted-requires-5 c κs = search needs
+
+returns : tie.Need-returns
+returns c = let a = c .before .before .before .args in operand-told (λ o. parallel-move o (a .kind) (a .e)) (c .before .enum-told .given .1) (c .shifted .ensures)
+
+returns-2 : tie.Need-returns-2
+returns-2 c = let a = c .before .before .before .before .before .args in both-told (λ o k. parallel-move o k (a .e)) (c .before .before .before .enum-told2 .given .1) (c .before .enum-told3 .given .1) (c .shifted2 .ensures)
+
+returns-3 : tie.Need-returns-3
+returns-3 c = let a = c .before .before .before .before .before .args in both-told (λ o k. parallel-move o k (a .e)) (c .before .before .before .enum-told2 .given .1) (c .before .enum-told4 .given .1) (c .shifted3 .ensures)
+
+returns-4 : tie.Need-returns-4
+returns-4 c = let a = c .before .before .before .before .before .args in both-told (λ o k. parallel-move o k (a .e)) (c .before .before .before .enum-told2 .given .1) (c .before .enum-told5 .given .1) (c .shifted4 .ensures)
+
+returns-5 : tie.Need-returns-5
+returns-5 c = let a = c .before .before .before .args in operand-told (λ o. parallel-move o (a .kind) (a .e)) (c .before .enum-told6 .given .1) (c .shifted5 .ensures)
+
+pub of-parallel-spec : {M : Type 1} → statement M
+of-parallel-spec =
+    tie.close
+    (tie.spec
+    enum-told
+    shifted-requires
+    enum-told-2
+    enum-told-3
+    shifted-requires-2
+    enum-told-4
+    shifted-requires-3
+    enum-told-5
+    shifted-requires-4
+    enum-told-6
+    shifted-requires-5
+    returns
+    returns-2
+    returns-3
+    returns-4
+    returns-5)
