@@ -5,3 +5,6 @@ pub mod ByTag
 pub mod Merges
 pub mod Ones
 pub mod Levels
+pub mod Boxes
+pub mod Sizes
+pub mod Children

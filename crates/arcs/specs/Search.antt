@@ -52,13 +52,18 @@ move-by rows table k operand kind =
     (cond (eqb (tag-at rows k) 4) (parallel-move operand kind e)
     (loop-move operand kind e f (counts-at table (after-at rows second))))))
 
--- Node k is an expression whose first action has the number n; the table has the counts of its nodes, and action i is in it.
-pub record In (rows table : List ℕ) (count k i n : ℕ) (E : Expr) : Type 0 where
-  pub at : ℕ
-  pub node : Node rows count k n at E
+-- Node k is an expression whose first action has the number n, and the table has the counts of its nodes.
+pub record At (rows table : List ℕ) (count k n : ℕ) (E : Expr) : Type 0 where
+  pub offset : ℕ
+  pub node : Node rows count k n offset E
   pub counted : Stands table (3 * k) (values counts-of E)
+
+-- Action i is in it, and its places are within the limit.
+pub record In (rows table : List ℕ) (count k i n : ℕ) (E : Expr) : Type 0 where
+  pub here : At rows table count k n E
   pub low : n ≤ i
   pub high : i < n + actions E
+  pub few : length (places n E) ≤ place-limit
 
 -- What a search for action i from node k asks.
 pub record Asks (rows table : List ℕ) (k i : ℕ) : Type 0 where
@@ -67,7 +72,6 @@ pub record Asks (rows table : List ℕ) (k i : ℕ) : Type 0 where
   pub E : Expr
   pub inside : In rows table count k i n E
   pub within : count ≤ 1366
-  pub few : length (places n E) ≤ place-limit
 
 -- A move finds room for the positions that it makes.
 pub record Movable (before : List ℕ) (count : ℕ) (m : Move) : Type 0 where
