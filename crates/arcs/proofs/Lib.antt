@@ -8,3 +8,4 @@ pub mod Levels
 pub mod Boxes
 pub mod Sizes
 pub mod Children
+pub mod Searches
