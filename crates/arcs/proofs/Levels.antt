@@ -77,14 +77,14 @@ module _ (kind : Kind) (off : ℕ) (cs : List Bool) (ps : List ℕ) (e : ones 0 
   as-last left bs q = as-factor left 1 bs (q ∙ ap (rep left) (sym (each-one cs))) (sym (mul-one (length cs)))
 
   -- By itself.
-  as-itself : ones off cs ≡ moved (shift kind off) ps
+  pub as-itself : ones off cs ≡ moved (shift kind off) ps
   as-itself = as-first 1 cs (sym (each-one cs))
 
 -- ---- behind lists that have none
-behind : (cs bs : List Bool) → Off cs → ones 0 (cs ++ bs) ≡ ones (length cs) bs
+pub behind : (cs bs : List Bool) → Off cs → ones 0 (cs ++ bs) ≡ ones (length cs) bs
 behind cs bs o = ones-behind 0 cs bs o ∙ ap (λ n. ones n bs) (zero-add (length cs))
 
-behind-two : (cs ds bs : List Bool) → Off cs → Off ds → ones 0 (cs ++ (ds ++ bs)) ≡ ones (length cs + length ds) bs
+pub behind-two : (cs ds bs : List Bool) → Off cs → Off ds → ones 0 (cs ++ (ds ++ bs)) ≡ ones (length cs + length ds) bs
 behind-two cs ds bs o p = behind cs (ds ++ bs) o ∙ ones-behind (length cs) ds bs p
 
 behind-three : (cs ds es bs : List Bool) → Off cs → Off ds → Off es → ones 0 (cs ++ (ds ++ (es ++ bs))) ≡ ones (length cs + length ds + length es) bs

@@ -9,3 +9,4 @@ pub mod Boxes
 pub mod Sizes
 pub mod Children
 pub mod Searches
+pub mod Transitions

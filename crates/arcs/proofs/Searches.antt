@@ -94,7 +94,7 @@ module _ (side : Side) (i : ℕ) (kind : Kind) (ps : List ℕ) where
         subst (λ Z. Goes (shift kind 0) Z ps) (sym (box-of-scope side i n a E)) (scope-only kind (bits n E) ps (found n E (p .inside)))
 
 -- ---- positions fit the array
-ones-fit : (bs : List Bool) (ps : List ℕ) → length bs ≤ 2048 → ones 0 bs ≡ ps → Fits ps
+pub ones-fit : (bs : List Bool) (ps : List ℕ) → length bs ≤ 2048 → ones 0 bs ≡ ps → Fits ps
 ones-fit bs ps h e = subst Fits e (record { few = omega (arith, ones-few 0 bs); small = λ j l. omega (arith, ones-below 0 j bs l) })
 
 pub lies-fit : (side : Side) (i n : ℕ) (E : Expr) (kind : Kind) (ps : List ℕ) → length (places n E) ≤ place-limit → Lies kind (box side i n E) ps → Fits ps
