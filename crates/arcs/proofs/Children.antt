@@ -5,8 +5,8 @@ use native.Mathlib.Omega.{arith}
 use native.Mathlib.Decide.{decLt}
 use mathlib.Core.Path.{_≡_, refl, sym, _∙_, ap, ap₂, subst}
 use mathlib.Core.Logic.{_⊎_, inl, inr}
-use mathlib.Core.List.{List, [], _∷_, _++_}
-use lib.ListN.{length, getD}
+use mathlib.Core.List.{List, _∷_, _++_}
+use lib.ListN.{length}
 use Rattle.field.specs.Limits.{place-limit}
 use Rattle.algebra.specs.Expr.{Expr, action, sequence, choice, parallel, loop, scope, actions}
 use Rattle.algebra.specs.Places.{places}
@@ -16,12 +16,11 @@ use Rattle.plan.specs.Table.{Stands, Node, tag-at, after-at, values}
 use Rattle.plan.proofs.NodeTable.{tag-of, node-says, sequence-operands, choice-operands, parallel-operands, loop-operands, scope-operand}
 use Rattle.plan.proofs.NodeValues.{node-count-positive}
 use Rattle.boxes.specs.NodeCounts.{counts-of}
-use Rattle.arcs.specs.Moves.{shift, sequence-move, choice-move, parallel-move, loop-move}
+use Rattle.arcs.specs.Moves.{sequence-move, choice-move, parallel-move, loop-move}
 use Rattle.arcs.specs.Search.{first-at, child, child-by, counts-at, move-by, At, In}
 use Rattle.arcs.specs.declared.moves.Kind.{Kind}
 use Rattle.arcs.specs.declared.moves.Operand.{Operand}
 use Rattle.arcs.specs.declared.moves.Operand.the-variants.{First, Second, Third}
-use Rattle.arcs.specs.declared.moves.Counts.{Counts}
 use Rattle.arcs.specs.declared.search.Child.{Child}
 use Rattle.arcs.proofs.ByTag.{child-of-scope, first-child, last-child, loop-second, loop-third, move-of-scope, move-of-sequence, move-of-choice, move-of-parallel, move-of-loop}
 use Rattle.arcs.proofs.Sizes.{sizes, total, move-of, counts-here, counts-behind, counts-split, sequence-within, choice-within, parallel-within, loop-within, scope-within}
@@ -85,7 +84,7 @@ module _ (rows table : List ℕ) (count : ℕ) where
   loop-parts {k} {n} E F G h =
       let (d, g) = loop-operands rows count E F G (h .node) in
       let (s, t) = counts-split table (k + 1) E (values counts-of F ++ values counts-of G)
-          (counts-behind table k (loop E F G) (values counts-of E ++ (values counts-of F ++ values counts-of G)) (h .counted)) in
+      (counts-behind table k (loop E F G) (values counts-of E ++ (values counts-of F ++ values counts-of G)) (h .counted)) in
       let (u, v) = counts-split table (k + 1 + node-count E) F (values counts-of G) t in
       (both k n E F d (s, u), record { offset = _; node = g; counted = v })
 

@@ -1,10 +1,10 @@
 -- One level up: where an operand's places that pass stand in the lists of the whole, if no other operand has any.
 -- True because a list that is joined behind others is shifted, and one that is a factor of a product is stretched and repeated.
 use Prim.Native.Nat.{ℕ, _+_, _*_}
-use native.Mathlib.Nat.{mul-one, add-zero, zero-add}
+use native.Mathlib.Nat.{mul-one, zero-add}
 use mathlib.Core.Path.{_≡_, refl, sym, _∙_, ap, ap₂}
 use mathlib.Core.Bool.{Bool, _||_}
-use mathlib.Core.List.{List, _++_, append-nil}
+use mathlib.Core.List.{List, _++_}
 use lib.ListN.{length}
 use Rattle.algebra.proofs.Products.{product-length}
 use Rattle.arcs.specs.Positions.{ones, stretched, repeated}

@@ -10,3 +10,4 @@ pub mod Sizes
 pub mod Children
 pub mod Searches
 pub mod Transitions
+pub mod AskedMet

@@ -1,15 +1,14 @@
 -- Merging two rising lists: the union of the numbers of the places that pass one test or another, and the turns of the loop that writes it.
 -- Both lists are written down while the places are walked once, so the next number of the union is the lesser of the two next ones.
-use Prim.Native.Nat.{ℕ, zero, suc, _+_, _-_, _≤_, _<_}
+use Prim.Native.Nat.{ℕ, suc, _+_, _≤_, _<_}
 use native.Mathlib.Omega.{arith}
 use native.Mathlib.Numerals.{add-one}
 use native.Mathlib.Nat.{add-zero}
-use mathlib.Core.Path.{_≡_, refl, sym, _∙_, ap, ap₂, subst}
+use mathlib.Core.Path.{_≡_, refl, sym, _∙_, ap, ap₂}
 use mathlib.Core.Bool.{Bool, true, false, cond, _||_}
 use mathlib.Core.List.{List, [], _∷_, _++_, append-assoc, append-nil}
 use lib.ListN.{length, getD, take, drop, set, length-set, length-take, length-append, drop-of-length-le}
 use lib.Seq.{drop-cons, take-suc-set, getD-take, length-take-le}
-use lib.Dec.{ltb}
 use borrow.Author.Tests.{lt-ltb, le-ltb}
 use Rattle.algebra.specs.Places.{Place}
 use Rattle.algebra.specs.Arcs.{numbers}
@@ -184,6 +183,6 @@ module _ (A B before : List ℕ) (a b : ℕ) (p : Mergeable A B before a b) wher
   pub merge-done : (out : List ℕ) (i j n : ℕ) → a + b ≤ i + j → Merging A B a b out i j n → Begins out n (union (take a A) (take b B))
   merge-done out i j n h g =
       let e : take n out ≡ union (take a A) (take b B) =
-          sym (append-nil (take n out))
-          ∙ ap (λ t. take n out ++ t) (sym (ap₂ union (nothing A a i (omega (arith, g .first, g .second))) (nothing B b j (omega (arith, g .first, g .second))) ∙ none-first [])) ∙ g .is in
+      sym (append-nil (take n out))
+      ∙ ap (λ t. take n out ++ t) (sym (ap₂ union (nothing A a i (omega (arith, g .first, g .second))) (nothing B b j (omega (arith, g .first, g .second))) ∙ none-first [])) ∙ g .is in
       record { all = sym (length-take-le n out (omega (arith, g .long, g .written))) ∙ ap length e; list = e }

@@ -1,6 +1,6 @@
 -- A move made for one operand and one list is the move of whatever operand and list are known to be these.
 -- True by the equations that the arms of a match tell.
-use Prim.Native.Nat.{ℕ, _+_, _*_, _≤_}
+use Prim.Native.Nat.{ℕ, _*_, _≤_}
 use native.Mathlib.Omega.{arith}
 use native.Mathlib.Nat.{mul-le-mul}
 use mathlib.Core.Path.{_≡_, sym, _∙_, ap, ap₂}

@@ -2,14 +2,13 @@
 -- A factor before repeats the list, and a factor behind repeats each bit; so the ones of a product are those of its factor, stretched and repeated.
 use Prim.Native.Nat.{ℕ, zero, suc, _+_, _*_, _≤_, _<_}
 use native.Mathlib.Omega.{arith}
-use native.Mathlib.Nat.{suc-mul, zero-mul, mul-one, add-zero, zero-add}
+use native.Mathlib.Nat.{suc-mul, zero-mul, add-zero, zero-add}
 use mathlib.Core.Path.{_≡_, refl, sym, _∙_, ap}
 use mathlib.Core.Bool.{Bool, true, false, cond, _||_}
 use mathlib.Core.List.{List, [], _∷_, _++_, map, append-assoc, append-nil}
 use lib.ListN.{length, getD, replicate, length-append, length-replicate, replicate-append-replicate}
 use Rattle.algebra.specs.Places.{Place, product}
 use Rattle.algebra.specs.Arcs.{numbers}
-use Rattle.algebra.proofs.Products.{product-length}
 use Rattle.arcs.specs.Positions.{ones, run, stretched, repeated}
 use Rattle.arcs.specs.Moves.{Off}
 
@@ -160,7 +159,7 @@ ones-rep (suc k) off bs = rw (ones-append off bs (rep k bs), ones-later off (len
 pub ones-widened : (left right off : ℕ) (bs : List Bool) → ones off (rep left (each right bs)) ≡ repeated left (length bs * right) (stretched right off (ones 0 bs))
 ones-widened left right off bs =
     let e : ones off (each right bs) ≡ stretched right off (ones 0 bs) =
-        ap (λ n. ones n (each right bs)) (sym (ap (λ n. n + off) (zero-mul right) ∙ zero-add off)) ∙ ones-each 0 right off bs in
+    ap (λ n. ones n (each right bs)) (sym (ap (λ n. n + off) (zero-mul right) ∙ zero-add off)) ∙ ones-each 0 right off bs in
     ones-rep left off (each right bs) ∙ rw (each-length right bs, e) refl
 
 -- ---- where there are none

@@ -1,14 +1,13 @@
 -- The search for the positions of an action: at the action itself, and one level up.
 -- True because the other operands do not have the action, so the operator's move brings every place that passes, and the places are few enough for the array.
-use Prim.Native.Nat.{ℕ, zero, suc, _+_, _*_, _≤_, _<_}
+use Prim.Native.Nat.{ℕ, _+_, _≤_, _<_}
 use native.Mathlib.Omega.{arith}
 use native.Mathlib.Nat.{le-mul-of-pos-right, mul-comm}
 use mathlib.Core.Path.{_≡_, refl, sym, _∙_, ap, ap₂, subst}
-use mathlib.Core.Logic.{_⊎_, inl, inr}
-use mathlib.Core.Bool.{Bool, true, false}
-use mathlib.Core.List.{List, [], _∷_, _++_, map}
-use lib.ListN.{length, getD, take, set, length-set}
-use lib.Dec.{eqb}
+use mathlib.Core.Logic.{inl, inr}
+use mathlib.Core.Bool.{Bool}
+use mathlib.Core.List.{List, [], _∷_}
+use lib.ListN.{length, take, set, length-set}
 use borrow.Author.Tests.{eq-eqb}
 use Rattle.field.specs.Limits.{place-limit}
 use Rattle.algebra.specs.Expr.{Expr, action, sequence, choice, parallel, loop, scope, actions}
@@ -17,7 +16,7 @@ use Rattle.algebra.specs.Arcs.{consumes, produces}
 use Rattle.algebra.proofs.Lengths.{places-length}
 use Rattle.plan.specs.Table.{tag-at}
 use Rattle.arcs.specs.Positions.{ones, stretched, repeated}
-use Rattle.arcs.specs.Moves.{own, Box, box, Off, Lies, moved, shift, sequence-move, choice-move, parallel-move, loop-move}
+use Rattle.arcs.specs.Moves.{own, Box, box, Lies, moved, shift, sequence-move, choice-move, parallel-move, loop-move}
 use Rattle.arcs.specs.Widen.{Fits, Became, Stretchable, Repeatable}
 use Rattle.arcs.specs.Search.{child-by, move-by, In, Asks, Movable, Found}
 use Rattle.arcs.specs.declared.moves.Side.{Side}
@@ -31,7 +30,7 @@ use Rattle.arcs.specs.declared.moves.Move.{Move}
 use Rattle.arcs.specs.declared.search.Child.{Child}
 use Rattle.arcs.proofs.Positions.{repeated-length, repeated-first}
 use Rattle.arcs.proofs.Ones.{ones-few, ones-below}
-use Rattle.arcs.proofs.Levels.{lengths, Goes, None, sequence-box, choice-box, parallel-box, loop-box, sequence-first, sequence-second, choice-first, choice-second, parallel-first, parallel-second, loop-first, loop-second, loop-third, scope-only}
+use Rattle.arcs.proofs.Levels.{lengths, Goes, loop-box, sequence-first, sequence-second, choice-first, choice-second, parallel-first, parallel-second, loop-first, loop-second, loop-third, scope-only}
 use Rattle.arcs.proofs.Boxes.{none, box-of-sequence, box-of-choice, box-of-parallel, box-of-loop, box-of-scope}
 use Rattle.arcs.proofs.Sizes.{sizes, total, box-lengths, move-of, move-some, Some}
 use Rattle.arcs.proofs.Children.{tag-is, node-inside, Picked, Picks, picks, moves}

@@ -1,19 +1,18 @@
 -- How many places an expression and its operands have: an operand has no more than the whole, a move has no empty factor, and the counts are those of the table.
 -- True because every box has an entry and an exit, so that a product is at least each of its factors.
-use Prim.Native.Nat.{ℕ, zero, suc, _+_, _*_, min, _≤_, _<_}
+use Prim.Native.Nat.{ℕ, zero, suc, _+_, _*_, _≤_, _<_}
 use native.Mathlib.Omega.{arith}
 use native.Mathlib.Nat.{mul-le-mul, mul-comm, le-mul-of-pos-right, suc-mul, mul-suc}
-use mathlib.Core.Path.{_≡_, refl, sym, _∙_, ap, subst}
-use mathlib.Core.List.{List, [], _∷_, _++_, map, append-nil}
-use lib.ListN.{length, getD, length-map, length-append}
+use mathlib.Core.Path.{_≡_, refl, sym, _∙_, subst}
+use mathlib.Core.List.{List, [], _++_, append-nil}
+use lib.ListN.{length, length-map, length-append}
 use Rattle.field.specs.Limits.{place-limit}
-use Rattle.algebra.specs.Expr.{Expr, action, sequence, choice, parallel, loop, scope, actions}
-use Rattle.algebra.specs.Places.{entries, internals, exits, places}
-use Rattle.algebra.proofs.Lengths.{entries-of, exits-of, internals-of, entries-length, exits-length, internals-length, places-length, entries-some, exits-some}
+use Rattle.algebra.specs.Expr.{Expr, action, sequence, choice, parallel, loop, scope}
+use Rattle.algebra.specs.Places.{entries, internals, exits}
+use Rattle.algebra.proofs.Lengths.{entries-of, exits-of, internals-of, entries-length, exits-length, internals-length, entries-some, exits-some}
 use Rattle.plan.specs.Nodes.{node-count}
 use Rattle.plan.specs.Table.{Stands, values}
 use Rattle.plan.proofs.Stands.{stands-first, stands-second, stands-at}
-use Rattle.boxes.specs.Counts.{entry-count, internal-count, exit-count}
 use Rattle.boxes.specs.NodeCounts.{counts-of}
 use Rattle.boxes.proofs.CountsCutOff.{entry-count-is, exit-count-is, internal-count-is}
 use Rattle.arcs.specs.Moves.{passes, box, shift, sequence-move, choice-move, parallel-move, loop-move}

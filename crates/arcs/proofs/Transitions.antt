@@ -1,28 +1,27 @@
 -- The whole: from the tables of an expression to what the search asks, and from the positions that it finds to the arcs of one action, of two, of an item.
 -- The entries come first among the places, then the internals, then the exits, so a list's positions are shifted by the lengths of those before it.
-use Prim.Native.Nat.{ℕ, _+_, _*_, _≤_, _<_}
+use Prim.Native.Nat.{ℕ, _*_, _≤_}
 use native.Mathlib.Omega.{arith}
 use mathlib.Core.Path.{_≡_, refl, sym, _∙_, ap, ap₂, subst}
-use mathlib.Core.Bool.{Bool, _||_}
-use mathlib.Core.List.{List, [], _∷_, _++_, map, map-append, append-nil}
-use lib.ListN.{length, getD, take, length-append, length-map, length-take}
+use mathlib.Core.Bool.{Bool}
+use mathlib.Core.List.{List, _++_, map, map-append, append-nil}
+use lib.ListN.{length, take, length-map, length-take}
 use borrow.Author.Tests.{eq-eqb, ne-eqb}
-use Rattle.field.specs.Limits.{place-limit}
-use Rattle.algebra.specs.Expr.{Expr, actions}
+use Rattle.algebra.specs.Expr.{Expr}
 use Rattle.algebra.specs.Item.{Item, one, two}
 use Rattle.algebra.specs.Places.{Place, entries, internals, exits, places}
 use Rattle.algebra.specs.Arcs.{numbers, by-item}
 use Rattle.algebra.proofs.Lengths.{places-length}
-use Rattle.plan.specs.Table.{Table, Stands, values}
+use Rattle.plan.specs.Table.{Stands, values}
 use Rattle.plan.proofs.Stands.{stands-take}
 use Rattle.plan.proofs.NodeValues.{table-node, table-within}
 use Rattle.net.specs.Tables.{none, item-of}
 use Rattle.boxes.specs.NodeCounts.{counts-of, node-counts}
 use Rattle.arcs.specs.Positions.{ones, stretched, repeated}
 use Rattle.arcs.specs.Moves.{passes, box, Lies, moved, base}
-use Rattle.arcs.specs.Widen.{Fits, Became, Stretchable}
+use Rattle.arcs.specs.Widen.{Became, Stretchable}
 use Rattle.arcs.specs.Search.{counts-at, In, Asks, Found}
-use Rattle.arcs.specs.Merge.{union, Pair, Mergeable}
+use Rattle.arcs.specs.Merge.{union, Mergeable}
 use Rattle.arcs.specs.Asked.{Of, Asked, Begins}
 use Rattle.arcs.specs.declared.moves.Side.{Side}
 use Rattle.arcs.specs.declared.moves.Kind.{Kind}
@@ -30,7 +29,7 @@ use Rattle.arcs.specs.declared.moves.Kind.the-variants.{Entry, Internal,
 use Rattle.arcs.specs.declared.moves.Counts.{Counts}
 use Rattle.arcs.proofs.Ones.{numbers-ones, ones-before, ones-few, off-append}
 use Rattle.arcs.proofs.Levels.{lengths, as-itself, behind, behind-two}
-use Rattle.arcs.proofs.Sizes.{sizes, total, box-lengths, counts-here}
+use Rattle.arcs.proofs.Sizes.{sizes, box-lengths, counts-here}
 use Rattle.arcs.proofs.Searches.{ones-fit}
 use Rattle.arcs.proofs.Merges.{union-numbers}
 

@@ -3,16 +3,15 @@
 use Prim.Native.Nat.{ℕ, zero, suc, _+_, _*_, _-_, _≤_, _<_}
 use native.Mathlib.Omega.{arith}
 use native.Mathlib.Decide.{decLt}
-use native.Mathlib.Numerals.{add-one}
 use native.Mathlib.Nat.{suc-mul, add-mul, one-mul, mul-le-mul-right, le-mul-of-pos-right, zero-mul}
 use mathlib.Core.Path.{_≡_, refl, sym, _∙_, ap, subst}
-use mathlib.Core.List.{List, [], _∷_, _++_}
-use lib.ListN.{length, getD, take, drop, set, length-set, length-take, drop-of-length-le}
+use mathlib.Core.List.{List, _∷_}
+use lib.ListN.{length, getD, take, drop, set, length-set, drop-of-length-le}
 use lib.Seq.{getD-set-same, getD-set-other, getD-take, length-take-le, drop-cons, take-append-seam}
 use Rattle.plan.specs.Table.{Stands}
 use Rattle.plan.proofs.Stands.{stands-both, stands-at, stands-kept, stands-whole}
 use Rattle.arcs.specs.Positions.{run, stretched, repeated}
-use Rattle.arcs.specs.Widen.{Ran, Became, Fits, Stretchable, Repeatable}
+use Rattle.arcs.specs.Widen.{Ran, Became, Stretchable, Repeatable}
 use Rattle.arcs.proofs.Positions.{run-length, run-at, stretched-length, stretched-at, repeated-length, repeated-first, repeated-next}
 
 -- A list that stands in front of an array, whole.
@@ -81,9 +80,9 @@ module _ (before : List ℕ) (count right off : ℕ) (h : Stretchable before cou
       let a : (i - 1 + 1) * right ≡ (i - 1) * right + right = add-mul (i - 1) 1 right ∙ ap (λ n. (i - 1) * right + n) (one-mul right) in
       let q : p ≡ getD ps (i - 1) 0 = e ∙ g .old (i - 1) (omega arith) ∙ sym (getD-take count before (i - 1) 0 (omega arith)) in
       let z : getD (stretched right off ps) ((i - 1) * right + (right - 1)) 0 ≡ getD ps (i - 1) 0 * right + off + (right - 1) =
-          stretched-at right off (i - 1) (right - 1) ps (omega (arith, ps-length)) (omega arith) in
+      stretched-at right off (i - 1) (right - 1) ps (omega (arith, ps-length)) (omega arith) in
       let w : getD (stretched right off ps) ((i - 1) * right + (right - 1)) 0 ≤ 65535 =
-          h .fits .small ((i - 1) * right + (right - 1)) (omega (arith, stretched-length right off ps, ap (λ n. n * right) ps-length)) in
+      h .fits .small ((i - 1) * right + (right - 1)) (omega (arith, stretched-length right off ps, ap (λ n. n * right) ps-length)) in
       let v : p * right ≡ getD ps (i - 1) 0 * right = ap (λ n. n * right) q in
       record { place = omega (arith, stretched-few); numbers = omega arith; behind = le-mul-of-pos-right (i - 1) (h .some) }
 
@@ -95,13 +94,13 @@ module _ (before : List ℕ) (count right off : ℕ) (h : Stretchable before cou
       let q : p ≡ getD ps (i - 1) 0 = e ∙ g .old (i - 1) (omega arith) ∙ sym (getD-take count before (i - 1) 0 (omega arith)) in
       let s : suc (i - 1) ≡ i = omega arith in
       let d : drop (i - 1) ps ≡ p ∷ drop i ps =
-          drop-cons ps (i - 1) 0 (omega (arith, ps-length)) ∙ ap (λ x. x ∷ drop (suc (i - 1)) ps) (sym q) ∙ ap (λ n. p ∷ drop n ps) s in
+      drop-cons ps (i - 1) 0 (omega (arith, ps-length)) ∙ ap (λ x. x ∷ drop (suc (i - 1)) ps) (sym q) ∙ ap (λ n. p ∷ drop n ps) s in
       let l : length (run (p * right + off) right) ≡ right = run-length (p * right + off) right in
       let b : i * right ≡ (i - 1) * right + length (run (p * right + off) right) = ap (λ n. n * right) (sym s) ∙ omega (arith, suc-mul (i - 1) right) in
       let first : Stands after ((i - 1) * right) (run (p * right + off) right) =
-          λ j h. r .new j (omega arith) ∙ sym (run-at (p * right + off) right j (omega arith)) in
+      λ j h. r .new j (omega arith) ∙ sym (run-at (p * right + off) right j (omega arith)) in
       let rest : Stands after (i * right) (stretched right off (drop i ps)) =
-          stands-kept out after (i * right) (stretched right off (drop i ps)) (λ j h. r .high j (omega arith)) (g .new) in
+      stands-kept out after (i * right) (stretched right off (drop i ps)) (λ j h. r .high j (omega arith)) (g .new) in
       record {
         upto = omega arith;
         long = r .long;

@@ -1,10 +1,10 @@
 // 01, "Box construction": the input and output places of one transition, found from the node table and the counts of every node. The
 // action is looked up from the root; its own entry or exit place is one position, and on the way back up each node says how the
 // positions change. So the work grows with the lists made on the way, and not with the places of the net.
-pub mod moves;
-pub mod widen;
-pub mod search;
 pub mod merge;
+pub mod moves;
+pub mod search;
+pub mod widen;
 
 use crate::merge::merge;
 use crate::moves::Side;
@@ -13,7 +13,6 @@ use crate::search::counts_at;
 use crate::search::find;
 use crate::widen::stretch;
 ghost use mathlib.Core.Path.{_≡_};
-ghost use Prim.Native.Nat.{ℕ, _+_, _*_, _≤_, _<_};
 ghost use lib.ListN.{length, replicate};
 ghost use Rattle.algebra.specs.Expr.{Expr};
 ghost use Rattle.algebra.specs.Item.{one, two};
@@ -100,4 +99,32 @@ pub fn arcs_of_item(
         return arcs_of_action(rows, nodes, counts, first, side, out);
     }
     arcs_of_two(rows, nodes, counts, first, second, side, out)
+}
+
+pub fn inputs_of_item(
+    rows: &[u16; 8196],
+    nodes: usize,
+    counts: &[u16; 4098],
+    first: usize,
+    second: usize,
+    out: &mut [u16; 2048],
+) -> usize
+    requires { ⌜ Asked (now rows) nodes (now counts) (item-of first second) ⌝ }
+    ensures { λ r. ⌜ ((E : Expr) → Of (now (rows .entry)) nodes (now (counts .entry)) (item-of first second) E → Begins (now (out .exit)) r (numbers (by-item consumes (item-of first second)) 0 (places 0 E))) ⌝ }
+{
+    arcs_of_item(rows, nodes, counts, first, second, Side::Inputs, out)
+}
+
+pub fn outputs_of_item(
+    rows: &[u16; 8196],
+    nodes: usize,
+    counts: &[u16; 4098],
+    first: usize,
+    second: usize,
+    out: &mut [u16; 2048],
+) -> usize
+    requires { ⌜ Asked (now rows) nodes (now counts) (item-of first second) ⌝ }
+    ensures { λ r. ⌜ ((E : Expr) → Of (now (rows .entry)) nodes (now (counts .entry)) (item-of first second) E → Begins (now (out .exit)) r (numbers (by-item produces (item-of first second)) 0 (places 0 E))) ⌝ }
+{
+    arcs_of_item(rows, nodes, counts, first, second, Side::Outputs, out)
 }

@@ -1,8 +1,7 @@
 // Two rising lists made one: the numbers of both, in order, and a number of both once.
 use plan::exclusive::wide;
-ghost use mathlib.Core.Path.{_≡_};
-ghost use Prim.Native.Nat.{ℕ, _+_, _≤_, _<_};
-ghost use lib.ListN.{length, take};
+ghost use Prim.Native.Nat.{_+_, _≤_, _<_};
+ghost use lib.ListN.{take};
 ghost use Rattle.arcs.specs.Asked.{Begins};
 ghost use Rattle.arcs.specs.Merge.{union, Pair, Mergeable, Next};
 

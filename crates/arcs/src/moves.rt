@@ -1,6 +1,6 @@
 // 01, "Box construction", read upwards: how the positions of places in one list of an operand become positions in a list of the whole.
 ghost use mathlib.Core.Path.{_≡_};
-ghost use Prim.Native.Nat.{_+_, _*_, _≤_};
+ghost use Prim.Native.Nat.{_+_, _*_};
 ghost use Rattle.arcs.specs.Moves.{own, move, shift, sequence-move, choice-move, parallel-move, loop-move, base, Small};
 
 // Which places of a transition are asked for.

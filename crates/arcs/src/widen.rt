@@ -1,7 +1,7 @@
 // Positions are changed in place: each becomes a run of positions, and the whole list is repeated. Every number is written by one addition.
 use plan::exclusive::wide;
 ghost use mathlib.Core.Path.{_≡_};
-ghost use Prim.Native.Nat.{ℕ, _+_, _*_, _≤_, _<_};
+ghost use Prim.Native.Nat.{_+_, _*_, _≤_, _<_};
 ghost use lib.ListN.{length, take};
 ghost use Rattle.arcs.specs.Positions.{stretched, repeated};
 ghost use Rattle.arcs.specs.Widen.{Ran, Became, Stretchable, Repeatable};

@@ -1,6 +1,6 @@
 -- `arcs_of_item` meets its contract: an item has one action, or two.
 -- Assumes nothing.
-use mathlib.Core.Path.{sym, subst}
+use mathlib.Core.Path.{subst}
 use Rattle.arcs.specs.Asked.{Asked}
 use Rattle.arcs.proofs.Transitions.{item-of-one, item-of-two, as-item}
 use Rattle.arcs.proofs.arcs_of_item.Statement.{statement}

@@ -1,60 +1,10 @@
+-- `of_choice` meets its contract: each arm answers one case of `choice-move`.
+-- Assumes nothing.
 use Rattle.arcs.specs.Moves.{choice-move}
 use Rattle.arcs.proofs.MoveTold.{both-told, operand-told}
 use borrow.Author.Needs.{needs}
 use Rattle.arcs.proofs.moves.of_choice.Statement.{statement}
 use Rattle.arcs.proofs.moves.of_choice.Tie as tie
-use Rattle.arcs.proofs.moves.of_choice.Reads as reads
-use Rattle.arcs.proofs.moves.of_choice.Lts as lts
-use Rattle.arcs.proofs.moves.make.Reads as make-reads
-use Rattle.arcs.proofs.moves.shifted.Reads as shifted-reads
-
-enum-told : tie.Need-enum-told
-enum-told c = search needs
-
-enum-told-2 : tie.Need-enum-told-2
-enum-told-2 c = search needs
-
-make-requires : tie.Need-make-requires
-make-requires c κs = search needs
-
-enum-told-3 : tie.Need-enum-told-3
-enum-told-3 c = search needs
-
-shifted-requires : tie.Need-shifted-requires
-shifted-requires c κs = search needs
-
-enum-told-4 : tie.Need-enum-told-4
-enum-told-4 c = search needs
-
-make-requires-2 : tie.Need-make-requires-2
-make-requires-2 c κs = search needs
-
-enum-told-5 : tie.Need-enum-told-5
-enum-told-5 c = search needs
-
-enum-told-6 : tie.Need-enum-told-6
-enum-told-6 c = search needs
-
-make-requires-3 : tie.Need-make-requires-3
-make-requires-3 c κs = search needs
-
-enum-told-7 : tie.Need-enum-told-7
-enum-told-7 c = search needs
-
-shifted-requires-2 : tie.Need-shifted-requires-2
-shifted-requires-2 c κs = search needs
-
-enum-told-8 : tie.Need-enum-told-8
-enum-told-8 c = search needs
-
-make-requires-4 : tie.Need-make-requires-4
-make-requires-4 c κs = search needs
-
-enum-told-9 : tie.Need-enum-told-9
-enum-told-9 c = search needs
-
-shifted-requires-3 : tie.Need-shifted-requires-3
-shifted-requires-3 c κs = search needs
 
 returns : tie.Need-returns
 returns c = let a = c .before .before .before .before .before .args in both-told (λ o k. choice-move o k (a .e) (a .f)) (c .before .before .before .enum-told .given .1) (c .before .enum-told2 .given .1) (c .make .ensures)
@@ -81,22 +31,22 @@ pub of-choice-spec : {M : Type 1} → statement M
 of-choice-spec =
     tie.close
     (tie.spec
-    enum-told
-    enum-told-2
-    make-requires
-    enum-told-3
-    shifted-requires
-    enum-told-4
-    make-requires-2
-    enum-told-5
-    enum-told-6
-    make-requires-3
-    enum-told-7
-    shifted-requires-2
-    enum-told-8
-    make-requires-4
-    enum-told-9
-    shifted-requires-3
+    (λ c. search needs)
+    (λ c. search needs)
+    (λ c κs. search needs)
+    (λ c. search needs)
+    (λ c κs. search needs)
+    (λ c. search needs)
+    (λ c κs. search needs)
+    (λ c. search needs)
+    (λ c. search needs)
+    (λ c κs. search needs)
+    (λ c. search needs)
+    (λ c κs. search needs)
+    (λ c. search needs)
+    (λ c κs. search needs)
+    (λ c. search needs)
+    (λ c κs. search needs)
     returns
     returns-2
     returns-3

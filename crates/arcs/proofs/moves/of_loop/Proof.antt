@@ -1,20 +1,12 @@
+-- `of_loop` meets its contract: each arm answers one case of `loop-move`, and products of numbers of 16 bits fit.
+-- Assumes nothing.
 use native.Mathlib.Omega.{arith}
 use Rattle.arcs.proofs.MoveTold.{product-fits, products-fit, products-fit′}
 use Rattle.arcs.specs.Moves.{loop-move}
-use Rattle.arcs.proofs.MoveTold.{both-told, operand-told}
+use Rattle.arcs.proofs.MoveTold.{both-told}
 use borrow.Author.Needs.{needs}
 use Rattle.arcs.proofs.moves.of_loop.Statement.{statement}
 use Rattle.arcs.proofs.moves.of_loop.Tie as tie
-use Rattle.arcs.proofs.moves.of_loop.Reads as reads
-use Rattle.arcs.proofs.moves.of_loop.Lts as lts
-use Rattle.arcs.proofs.moves.make.Reads as make-reads
-use Rattle.arcs.proofs.moves.shifted.Reads as shifted-reads
-
-add-off : tie.Need-add-off
-add-off c = search needs
-
-add-off-2 : tie.Need-add-off-2
-add-off-2 c = search needs
 
 mul-x : tie.Need-mul-x
 mul-x c = let p = c .before .before .before .before .before .pre in omega (arith, product-fits (p .0 .exits) (p .1 .exits))
@@ -22,80 +14,14 @@ mul-x c = let p = c .before .before .before .before .before .pre in omega (arith
 mul-y : tie.Need-mul-y
 mul-y c = let p = c .before .before .before .before .before .before .before .pre in omega (arith, product-fits (p .1 .entries) (p .2 .entries))
 
-enum-told : tie.Need-enum-told
-enum-told c = search needs
-
-enum-told-2 : tie.Need-enum-told-2
-enum-told-2 c = search needs
-
-shifted-requires : tie.Need-shifted-requires
-shifted-requires c κs = search needs
-
-enum-told-3 : tie.Need-enum-told-3
-enum-told-3 c = search needs
-
-shifted-requires-2 : tie.Need-shifted-requires-2
-shifted-requires-2 c κs = search needs
-
-enum-told-4 : tie.Need-enum-told-4
-enum-told-4 c = search needs
-
 mul-make : tie.Need-mul-make
 mul-make c = let p = c .before .before .before .before .before .before .before .before .before .before .before .before .pre in omega (arith, products-fit (p .1 .exits) (product-fits (p .1 .entries) (p .2 .entries)))
-
-make-requires : tie.Need-make-requires
-make-requires c κs = search needs
-
-enum-told-5 : tie.Need-enum-told-5
-enum-told-5 c = search needs
-
-enum-told-6 : tie.Need-enum-told-6
-enum-told-6 c = search needs
-
-make-requires-2 : tie.Need-make-requires-2
-make-requires-2 c κs = search needs
-
-enum-told-7 : tie.Need-enum-told-7
-enum-told-7 c = search needs
-
-shifted-requires-3 : tie.Need-shifted-requires-3
-shifted-requires-3 c κs = search needs
-
-enum-told-8 : tie.Need-enum-told-8
-enum-told-8 c = search needs
 
 mul-make-2 : tie.Need-mul-make-2
 mul-make-2 c = let p = c .before .before .before .before .before .before .before .before .before .before .before .before .pre in omega (arith, products-fit (p .1 .exits) (product-fits (p .1 .entries) (p .2 .entries)))
 
-make-requires-3 : tie.Need-make-requires-3
-make-requires-3 c κs = search needs
-
-enum-told-9 : tie.Need-enum-told-9
-enum-told-9 c = search needs
-
-enum-told-10 : tie.Need-enum-told-10
-enum-told-10 c = search needs
-
 mul-make-3 : tie.Need-mul-make-3
 mul-make-3 c = let p = c .before .before .before .before .before .before .before .before .before .before .before .before .pre in omega (arith, products-fit′ (product-fits (p .0 .exits) (p .1 .exits)) (p .1 .entries))
-
-make-requires-4 : tie.Need-make-requires-4
-make-requires-4 c κs = search needs
-
-enum-told-11 : tie.Need-enum-told-11
-enum-told-11 c = search needs
-
-add-shifted : tie.Need-add-shifted
-add-shifted c = search needs
-
-shifted-requires-4 : tie.Need-shifted-requires-4
-shifted-requires-4 c κs = search needs
-
-enum-told-12 : tie.Need-enum-told-12
-enum-told-12 c = search needs
-
-shifted-requires-5 : tie.Need-shifted-requires-5
-shifted-requires-5 c κs = search needs
 
 returns : tie.Need-returns
 returns c = let a = c .before .before .before .before .before .before .before .before .before .before .before .before .args in both-told (λ o k. loop-move o k (a .e) (a .f) (a .g)) (c .before .before .before .enum-told .given .1) (c .before .enum-told2 .given .1) (c .shifted .ensures)
@@ -128,35 +54,35 @@ pub of-loop-spec : {M : Type 1} → statement M
 of-loop-spec =
     tie.close
     (tie.spec
-    add-off
-    add-off-2
+    (λ c. search needs)
+    (λ c. search needs)
     mul-x
     mul-y
-    enum-told
-    enum-told-2
-    shifted-requires
-    enum-told-3
-    shifted-requires-2
-    enum-told-4
+    (λ c. search needs)
+    (λ c. search needs)
+    (λ c κs. search needs)
+    (λ c. search needs)
+    (λ c κs. search needs)
+    (λ c. search needs)
     mul-make
-    make-requires
-    enum-told-5
-    enum-told-6
-    make-requires-2
-    enum-told-7
-    shifted-requires-3
-    enum-told-8
+    (λ c κs. search needs)
+    (λ c. search needs)
+    (λ c. search needs)
+    (λ c κs. search needs)
+    (λ c. search needs)
+    (λ c κs. search needs)
+    (λ c. search needs)
     mul-make-2
-    make-requires-3
-    enum-told-9
-    enum-told-10
+    (λ c κs. search needs)
+    (λ c. search needs)
+    (λ c. search needs)
     mul-make-3
-    make-requires-4
-    enum-told-11
-    add-shifted
-    shifted-requires-4
-    enum-told-12
-    shifted-requires-5
+    (λ c κs. search needs)
+    (λ c. search needs)
+    (λ c. search needs)
+    (λ c κs. search needs)
+    (λ c. search needs)
+    (λ c κs. search needs)
     returns
     returns-2
     returns-3

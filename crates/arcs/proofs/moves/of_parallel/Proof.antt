@@ -1,44 +1,10 @@
+-- `of_parallel` meets its contract: each arm answers one case of `parallel-move`.
+-- Assumes nothing.
 use Rattle.arcs.specs.Moves.{parallel-move}
 use Rattle.arcs.proofs.MoveTold.{both-told, operand-told}
 use borrow.Author.Needs.{needs}
 use Rattle.arcs.proofs.moves.of_parallel.Statement.{statement}
 use Rattle.arcs.proofs.moves.of_parallel.Tie as tie
-use Rattle.arcs.proofs.moves.of_parallel.Reads as reads
-use Rattle.arcs.proofs.moves.of_parallel.Lts as lts
-use Rattle.arcs.proofs.moves.shifted.Reads as shifted-reads
-
-enum-told : tie.Need-enum-told
-enum-told c = search needs
-
-shifted-requires : tie.Need-shifted-requires
-shifted-requires c κs = search needs
-
-enum-told-2 : tie.Need-enum-told-2
-enum-told-2 c = search needs
-
-enum-told-3 : tie.Need-enum-told-3
-enum-told-3 c = search needs
-
-shifted-requires-2 : tie.Need-shifted-requires-2
-shifted-requires-2 c κs = search needs
-
-enum-told-4 : tie.Need-enum-told-4
-enum-told-4 c = search needs
-
-shifted-requires-3 : tie.Need-shifted-requires-3
-shifted-requires-3 c κs = search needs
-
-enum-told-5 : tie.Need-enum-told-5
-enum-told-5 c = search needs
-
-shifted-requires-4 : tie.Need-shifted-requires-4
-shifted-requires-4 c κs = search needs
-
-enum-told-6 : tie.Need-enum-told-6
-enum-told-6 c = search needs
-
-shifted-requires-5 : tie.Need-shifted-requires-5
-shifted-requires-5 c κs = search needs
 
 returns : tie.Need-returns
 returns c = let a = c .before .before .before .args in operand-told (λ o. parallel-move o (a .kind) (a .e)) (c .before .enum-told .given .1) (c .shifted .ensures)
@@ -59,17 +25,17 @@ pub of-parallel-spec : {M : Type 1} → statement M
 of-parallel-spec =
     tie.close
     (tie.spec
-    enum-told
-    shifted-requires
-    enum-told-2
-    enum-told-3
-    shifted-requires-2
-    enum-told-4
-    shifted-requires-3
-    enum-told-5
-    shifted-requires-4
-    enum-told-6
-    shifted-requires-5
+    (λ c. search needs)
+    (λ c κs. search needs)
+    (λ c. search needs)
+    (λ c. search needs)
+    (λ c κs. search needs)
+    (λ c. search needs)
+    (λ c κs. search needs)
+    (λ c. search needs)
+    (λ c κs. search needs)
+    (λ c. search needs)
+    (λ c κs. search needs)
     returns
     returns-2
     returns-3

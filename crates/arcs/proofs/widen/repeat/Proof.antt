@@ -28,24 +28,27 @@ mul-wide c = let a = c .before .before .args in omega (arith, repeated-few (a .o
 element-copy-out-wide : tie.Need-element-copy-out-wide Inv-loop μ-loop
 element-copy-out-wide c = let a = c .before .before .args in omega (arith, repeated-few (a .out .now) (a .count) (a .left) (a .step) (c .before .before .pre))
 
-wide-requires : tie.Need-wide-requires Inv-loop μ-loop
-wide-requires c κs = search needs
-
 add-out : tie.Need-add-out Inv-loop μ-loop
 add-out c =
     let a = c .before .before .before .before .args in
     let l = c .before .before .before .loop in
     let t = c .before .before .loop-test .taken in
-    omega (arith, repeat-fits (a .out .now) (a .count) (a .left) (a .step) (c .before .before .before .before .pre) (l .out) (l .k) _ t (l .inv)
-    (some-count (a .out .now) (a .count) (a .left) (a .step) (c .before .before .before .before .pre) (l .k) t) (c .wide .ensures .0))
+    omega (
+      arith,
+      repeat-fits (a .out .now) (a .count) (a .left) (a .step) (c .before .before .before .before .pre) (l .out) (l .k) _ t (l .inv)
+          (some-count (a .out .now) (a .count) (a .left) (a .step) (c .before .before .before .before .pre) (l .k) t) (c .wide .ensures .0),
+    )
 
 cast-out : tie.Need-cast-out Inv-loop μ-loop
 cast-out c =
     let a = c .before .before .before .before .args in
     let l = c .before .before .before .loop in
     let t = c .before .before .loop-test .taken in
-    omega (arith, repeat-fits (a .out .now) (a .count) (a .left) (a .step) (c .before .before .before .before .pre) (l .out) (l .k) _ t (l .inv)
-    (some-count (a .out .now) (a .count) (a .left) (a .step) (c .before .before .before .before .pre) (l .k) t) (c .wide .ensures .0))
+    omega (
+      arith,
+      repeat-fits (a .out .now) (a .count) (a .left) (a .step) (c .before .before .before .before .pre) (l .out) (l .k) _ t (l .inv)
+          (some-count (a .out .now) (a .count) (a .left) (a .step) (c .before .before .before .before .pre) (l .k) t) (c .wide .ensures .0),
+    )
 
 mul-out : tie.Need-mul-out Inv-loop μ-loop
 mul-out c = let a = c .before .before .before .before .args in omega (arith, repeated-few (a .out .now) (a .count) (a .left) (a .step) (c .before .before .before .before .pre))
@@ -76,4 +79,4 @@ returns c =
 pub repeat-spec : {M : Type 1} → statement M
 repeat-spec =
     tie.close
-    (tie.spec Inv-loop μ-loop mul-total loop-holds sub-wide mul-wide element-copy-out-wide wide-requires add-out cast-out mul-out element-write-out add-k loop-less loop-again returns)
+    (tie.spec Inv-loop μ-loop mul-total loop-holds sub-wide mul-wide element-copy-out-wide (λ c κs. search needs) add-out cast-out mul-out element-write-out add-k loop-less loop-again returns)

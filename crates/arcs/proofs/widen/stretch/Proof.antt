@@ -24,9 +24,6 @@ mul-wide c = omega (arith, c .before .loop .inv .upto, c .before .before .pre .m
 element-copy-out-wide : tie.Need-element-copy-out-wide Inv-loop μ-loop
 element-copy-out-wide c = omega (arith, c .before .loop .inv .upto, c .before .before .pre .most)
 
-wide-requires : tie.Need-wide-requires Inv-loop μ-loop
-wide-requires c κs = search needs
-
 mul-put-run : tie.Need-mul-put-run Inv-loop μ-loop
 mul-put-run c =
     let a = c .before .before .before .before .before .args in
@@ -73,4 +70,4 @@ returns c =
 pub stretch-spec : {M : Type 1} → statement M
 stretch-spec =
     tie.close
-    (tie.spec Inv-loop μ-loop loop-holds sub-i mul-wide element-copy-out-wide wide-requires mul-put-run mul-put-run-2 add-put-run put-run-requires loop-less loop-again mul-result returns)
+    (tie.spec Inv-loop μ-loop loop-holds sub-i mul-wide element-copy-out-wide (λ c κs. search needs) mul-put-run mul-put-run-2 add-put-run put-run-requires loop-less loop-again mul-result returns)
