@@ -6,9 +6,11 @@ use mathlib.Core.List.{List, [], _∷_, _++_, append-assoc, append-nil}
 use native.Mathlib.Omega.{arith}
 use native.Mathlib.Numerals.{add-one}
 use lib.ListN.{length, getD, take, drop, set, drop-of-length-le, length-drop}
-use lib.Seq.{take-suc-set, length-take-le, drop-drop, drop-cons, take-all}
+use lib.Seq.{getD-set-same, getD-set-other, take-suc-set, length-take-le, drop-drop, drop-cons, take-all}
 use Rattle.field.specs.Answer.{Answer, good, refused, _>>=_, _>>_, check}
-use lib.Dec.{eqb}
+use lib.Dec.{eqb, ltb}
+use borrow.Author.Tests.{eqb-true, eqb-false, ltb-true, ltb-false}
+use Rattle.step.proofs.Bools.{test}
 use mathlib.Core.Bool.{Bool, true, false, cond}
 use Rattle.algebra.specs.Item.{Item, one, two, first}
 use Rattle.net.specs.Tables.{none, item-of}
@@ -99,3 +101,13 @@ pub fits-item : (least k : ℕ) (s : List ℕ) (r : ItemAnswer) → ItemFits lea
 fits-item least k s r f i j bytes e =
     subst (λ (n : ℕ). (least ≤ i) × (i ≤ 255) × (1 ≤ bytes) × (bytes ≤ n)) (ap length (rest-part s k) ∙ length-drop k s)
     (subst (ItemFits least (length (take (length s - k) (drop k s)))) e f)
+
+-- What holds of each number written so far holds of each with one more.
+pub below-set : (ts : List ℕ) (k t n : ℕ) → k < length ts → ((i : ℕ) → i < k → getD ts i 0 < n) → t < n → (i : ℕ) → i < k + 1 → getD (set ts k t) i 0 < n
+below-set ts k t n l f h i g =
+    test (eqb i k)
+    (λ e. subst (λ (x : ℕ). getD (set ts k t) x 0 < n) (sym (eqb-true i k e)) (subst (λ (x : ℕ). x < n) (sym (getD-set-same ts k t 0 l)) h))
+    (λ e. let other = eqb-false i k e in subst (λ (x : ℕ). x < n) (sym (getD-set-other ts k i t 0 other)) (f i (below i k g other)))
+  where
+    below : (i k : ℕ) → i < k + 1 → (i ≡ k → ⊥) → i < k
+    below i k g o = test (ltb i k) (λ t. ltb-true i k t) (λ t. absurd (o (let z : k ≤ i = ltb-false i k t in omega arith)))

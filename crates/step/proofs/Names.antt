@@ -7,9 +7,9 @@ use mathlib.Core.Bool.{Bool, true, false, cond, _&&_}
 use native.Mathlib.Nat.{add-zero, add-suc, suc-add}
 use native.Mathlib.Numerals.{add-one}
 use native.Mathlib.Omega.{arith}
-use borrow.Author.Tests.{eqb-true, eqb-false, eq-eqb, ne-eqb, lt-ltb, le-ltb, ltb-true, ltb-false}
+use borrow.Author.Tests.{eqb-true, eqb-false, eq-eqb, ne-eqb, lt-ltb, le-ltb}
 use lib.ListN.{length, getD, set, take, drop, drop-of-length-le}
-use lib.Seq.{drop-cons, take-suc-set, getD-set-same, getD-set-other}
+use lib.Seq.{drop-cons, take-suc-set}
 use lib.Dec.{eqb, ltb}
 use Rattle.field.specs.Refusals.{no-transition}
 use Rattle.field.specs.Answer.{Answer, good, refused, _>>=_}
@@ -18,8 +18,9 @@ use Rattle.algebra.specs.Net.{Transition}
 use Rattle.algebra.specs.Firing.{names, named-by, transitions-named}
 use Rattle.net.specs.Tables.{none, item-of, transition-at, transitions-from}
 use Rattle.step.specs.FormSays.{paired}
-use Rattle.net.specs.Chains.{in-row}
-use Rattle.step.specs.Naming.{rows-and-arcs, transition-in, transitions-within, seek, found-says}
+use Rattle.net.specs.Chains.{in-row, with-first, Chains}
+use Rattle.net.proofs.Walks.{ahead, Stands, walk-starts, walk-goes-on, walk-ends}
+use Rattle.step.specs.Naming.{rows-and-arcs, transition-in, transitions-within, seek, seek-in, found-says}
 use Rattle.step.proofs.Bools.{test}
 use Rattle.step.proofs.ItemLists.{behind, behind-behind}
 
@@ -42,20 +43,41 @@ same-pair i j a b =
     (λ q. rw (p, q, ne-eqb j b (λ e. absurd (eqb-false j none p (e ∙ eqb-true b none q)))) (sym (and-false (eqb i a))))
     (λ q. rw (p, q)))
 
--- the loop of the search
-module _ (rows : List ℕ) (i j n t : ℕ) where
-  pub seek-end : n ≤ t → seek rows i j t (n - t) ≡ t
-  unfolding seek
-  seek-end h = let e : n - t ≡ 0 = omega arith in rw e
+-- Of all transitions those of the first action are enough to look at.
+seek-chain : (rows : List ℕ) (i j t m n : ℕ) → t + m ≡ n → seek rows i j t m ≡ seek-in rows j n (with-first rows i t m)
+unfolding seek seek-in with-first
+seek-chain rows i j t zero n e = omega arith
+seek-chain rows i j t (suc m) n e =
+    test (eqb (in-row rows t 1) i)
+    (λ a.
+    rw (a, eq-eqb i (in-row rows t 1) (sym (eqb-true (in-row rows t 1) i a)))
+    (ap (λ (x : ℕ). cond (eqb j (in-row rows t 2)) t x) (seek-chain rows i j (suc t) m n (omega arith))))
+    (λ a. rw (a, ne-eqb i (in-row rows t 1) (λ f. absurd (eqb-false (in-row rows t 1) i a (sym f)))) (seek-chain rows i j (suc t) m n (omega arith)))
 
-  module _ (h : t < n) (a b : ℕ) (p : a ≡ in-row rows t 1) (q : b ≡ in-row rows t 2) where
-    pub seek-here : (eqb i a && eqb j b) ≡ true → seek rows i j t (n - t) ≡ t
-    unfolding seek
-    seek-here e = let z : n - t ≡ suc (n - (t + 1)) = omega arith in rw (z, ← p, ← q, e)
+-- the walk of a chain
+module _ (rows next : List ℕ) (i j n : ℕ) (few : n ≤ none) where
+  pub seek-starts : (head : List ℕ) → Chains rows n head next → i < 256 → (t : ℕ) → t ≡ getD head i 0
+      → Stands rows n next i t × (seek rows i j 0 n ≡ seek-in rows j n (ahead rows n i t))
+  seek-starts head c h t e =
+      let w = walk-starts rows next i n few head c h in
+      subst (λ (x : ℕ). Stands rows n next i x × (seek rows i j 0 n ≡ seek-in rows j n (ahead rows n i x))) (sym e)
+      (w .1, seek-chain rows i j 0 n n (omega arith) ∙ ap (seek-in rows j n) (w .0))
 
-    pub seek-on : (eqb i a && eqb j b) ≡ false → seek rows i j t (n - t) ≡ seek rows i j (t + 1) (n - (t + 1))
-    unfolding seek
-    seek-on e = let z : n - t ≡ suc (n - (t + 1)) = omega arith in rw (z, ← p, ← q, e, add-one t)
+  module _ (t : ℕ) (h : t < n) (s : Stands rows n next i t) (b : ℕ) (p : b ≡ in-row rows t 2) where
+    pub seek-here : j ≡ b → seek-in rows j n (ahead rows n i t) ≡ t
+    unfolding seek-in
+    seek-here e = rw (walk-goes-on rows next i n few t h s .0, ← p, eq-eqb j b e)
+
+    pub seek-on : (j ≡ b → ⊥) → (u : ℕ) → u ≡ getD next t 0 → seek-in rows j n (ahead rows n i t) ≡ seek-in rows j n (ahead rows n i u)
+    unfolding seek-in
+    seek-on e u f = rw (walk-goes-on rows next i n few t h s .0, ← p, ne-eqb j b e, f)
+
+    pub walk-on : (u : ℕ) → u ≡ getD next t 0 → (t < u) × Stands rows n next i u
+    walk-on u f = let w = walk-goes-on rows next i n few t h s in subst (λ (x : ℕ). (t < x) × Stands rows n next i x) (sym f) (w .1, w .2)
+
+  pub seek-ends : (t : ℕ) → n ≤ t → seek-in rows j n (ahead rows n i t) ≡ n
+  unfolding seek-in
+  seek-ends t h = rw (walk-ends rows next i n t h)
 
 -- what the search found is what the item names
 module _ (rows arcs : List ℕ) (i j : ℕ) where
@@ -114,13 +136,3 @@ module _ (rows arcs firsts seconds : List ℕ) (n k : ℕ) (ts : List ℕ) (l : 
         (behind-behind (map (transition-in rows arcs) (take k ts)) (transition-in rows arcs t ∷ []) (transitions-named (transitions-within rows arcs n) (suc k) (paired (drop (k + 1) firsts) (drop (k + 1) seconds)))
         ∙ ap₂ (λ (us : List Transition) (m : ℕ). behind us (transitions-named (transitions-within rows arcs n) m (paired (drop (k + 1) firsts) (drop (k + 1) seconds))))
         (sym (ap (map (transition-in rows arcs)) (ap (λ (m : ℕ). take m (set ts k t)) (add-one k) ∙ take-suc-set ts k t m) ∙ map-snoc (transition-in rows arcs) (take k ts) t)) (sym (add-one k)))
-
--- What holds of each number written so far holds of each with one more.
-pub below-set : (ts : List ℕ) (k t n : ℕ) → k < length ts → ((i : ℕ) → i < k → getD ts i 0 < n) → t < n → (i : ℕ) → i < k + 1 → getD (set ts k t) i 0 < n
-below-set ts k t n l f h i g =
-    test (eqb i k)
-    (λ e. subst (λ (x : ℕ). getD (set ts k t) x 0 < n) (sym (eqb-true i k e)) (subst (λ (x : ℕ). x < n) (sym (getD-set-same ts k t 0 l)) h))
-    (λ e. let other = eqb-false i k e in subst (λ (x : ℕ). x < n) (sym (getD-set-other ts k i t 0 other)) (f i (below i k g other)))
-  where
-    below : (i k : ℕ) → i < k + 1 → (i ≡ k → ⊥) → i < k
-    below i k g o = test (ltb i k) (λ t. ltb-true i k t) (λ t. absurd (o (let z : k ≤ i = ltb-false i k t in omega arith)))

@@ -1,12 +1,13 @@
 -- A step field is its header and then its items, in a record and where firing is lent it alone; and what the code's answers say of both.
 -- True by the definitions: the header's tests stand in front of the items in each.
-use Prim.Native.Nat.{ℕ, _+_, _-_, _≤_}
+use Prim.Native.Nat.{ℕ, _+_, _-_, _≤_, _<_}
 use mathlib.Core.Path.{_≡_, refl, sym, ap, subst, _∙_}
 use mathlib.Core.List.{List}
 use mathlib.Core.Bool.{Bool, true, false, _&&_}
 use native.Mathlib.Omega.{arith}
 use borrow.Author.Tests.{eq-eqb, ne-eqb}
 use lib.ListN.{length, take, drop}
+use lib.Seq.{length-take-le, getD-take}
 use lib.Dec.{eqb, leb}
 use Rattle.field.specs.Refusals.{wrong-tag, wrong-length}
 use Rattle.field.specs.Answer.{Answer, good, refused, _>>=_, _>>_, check}
@@ -14,7 +15,7 @@ use Rattle.field.specs.Field.{tag-of, length-of, body-of}
 use Rattle.field.proofs.Answers.{bind-good, check-good, good-same}
 use Rattle.algebra.specs.Item.{Item}
 use Rattle.step.specs.Form.{StepRead, check-header, read-items, read-step, read-lent-step}
-use Rattle.step.specs.FormSays.{items-in, items-say, ItemsFit, head-says, HeadFits, step-head, step-says, StepFits}
+use Rattle.step.specs.FormSays.{items-in, items-say, Bytes, ItemsFit, head-says, HeadFits, step-head, step-says, StepFits}
 use Rattle.step.specs.declared.form.ItemsAnswer.{ItemsAnswer}
 use Rattle.step.specs.declared.form.ItemsAnswer.the-variants as items-answer
 use Rattle.step.specs.declared.form.HeadAnswer.{HeadAnswer}
@@ -84,8 +85,14 @@ module _ (at : ℕ) (s : List ℕ) (r : HeadAnswer) (says : head-says at r ≡ s
 pub head-fits : (left n : ℕ) (r : HeadAnswer) → HeadFits left r → r ≡ head-answer.Body n → 3 + n ≤ left
 head-fits left n r f e = subst (HeadFits left) e f
 
-pub items-fit : (k : ℕ) (q : ItemsAnswer) (firsts seconds : List ℕ) → ItemsFit q firsts seconds → q ≡ items-answer.Items k → (k ≤ 256) × (k ≤ length firsts) × (k ≤ length seconds)
+pub items-fit : (k : ℕ) (q : ItemsAnswer) (firsts seconds : List ℕ) → ItemsFit q firsts seconds → q ≡ items-answer.Items k → (k ≤ 256) × (k ≤ length firsts) × (k ≤ length seconds) × Bytes k firsts
 items-fit k q firsts seconds f e = subst (λ (a : ItemsAnswer). ItemsFit a firsts seconds) e f
+
+-- The first actions of the front of a list.
+pub bytes-part : (n : ℕ) (firsts : List ℕ) → n ≤ length firsts → Bytes n firsts → Bytes (length (take n firsts)) (take n firsts)
+bytes-part n firsts l b k h =
+    let inside : k < n = omega (arith, length-take-le n firsts l) in
+    subst (λ (x : ℕ). x < 256) (sym (getD-take n firsts k 0 inside)) (b k inside)
 
 module _ (s : List ℕ) (r : HeadAnswer) (says : head-says 0 r ≡ step-head 0 s) where
   pub lent-refused : (n : ℕ) → r ≡ head-answer.Refused n → refused n 0 ≡ read-lent-step s

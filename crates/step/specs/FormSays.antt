@@ -1,8 +1,8 @@
 -- What the answers of the code that reads a step say, case by case: 01's number and values. The refusals of step form carry the step's offset.
-use Prim.Native.Nat.{ℕ, suc, _+_, _-_, _≤_}
+use Prim.Native.Nat.{ℕ, suc, _+_, _-_, _≤_, _<_}
 use mathlib.Core.List.{List, [], _∷_}
 use mathlib.Core.Bool.{Bool, cond}
-use lib.ListN.{length, take}
+use lib.ListN.{length, getD, take}
 use lib.Dec.{eqb, leb}
 use Rattle.field.specs.Refusals.{wrong-tag, wrong-length}
 use Rattle.field.specs.Answer.{Answer, good, refused, _>>=_, _>>_, check}
@@ -49,10 +49,14 @@ abbrev pub items-say : ℕ → ItemsAnswer → List ℕ → List ℕ → Answer 
 items-say at (items-answer.Refused n) firsts seconds = refused n at
 items-say at (items-answer.Items n) firsts seconds = good (items-in n firsts seconds)
 
--- There is room for no more items than 256, and the two lists hold them.
+-- So many first actions are bytes.
+abbrev pub Bytes : ℕ → List ℕ → Type 0
+Bytes n firsts = (k : ℕ) → k < n → getD firsts k 0 < 256
+
+-- There are no more items than 256, the two lists hold them, and their first actions are bytes.
 abbrev pub ItemsFit : ItemsAnswer → List ℕ → List ℕ → Type 0
 ItemsFit (items-answer.Refused n) firsts seconds = Unit {0}
-ItemsFit (items-answer.Items n) firsts seconds = (n ≤ 256) × (n ≤ length firsts) × (n ≤ length seconds)
+ItemsFit (items-answer.Items n) firsts seconds = (n ≤ 256) × (n ≤ length firsts) × (n ≤ length seconds) × Bytes n firsts
 
 -- "a step's own header before them"; "a step of no items is not" good. The answer is the length of the body.
 unfoldable pub step-head : ℕ → List ℕ → Answer ℕ
@@ -79,4 +83,4 @@ step-says at (step-answer.Step n bytes) firsts seconds = good (record { items = 
 -- The step lies in the bytes, and the two lists hold its items.
 abbrev pub StepFits : ℕ → StepAnswer → List ℕ → List ℕ → Type 0
 StepFits left (step-answer.Refused n) firsts seconds = Unit {0}
-StepFits left (step-answer.Step n bytes) firsts seconds = (1 ≤ bytes) × (bytes ≤ left) × (n ≤ 256) × (n ≤ length firsts) × (n ≤ length seconds)
+StepFits left (step-answer.Step n bytes) firsts seconds = (1 ≤ bytes) × (bytes ≤ left) × (n ≤ 256) × (n ≤ length firsts) × (n ≤ length seconds) × Bytes n firsts

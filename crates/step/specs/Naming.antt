@@ -28,6 +28,11 @@ unfoldable pub seek : List ℕ → ℕ → ℕ → ℕ → ℕ → ℕ
 seek rows i j t zero = t
 seek rows i j t (suc n) = cond (eqb i (in-row rows t 1) && eqb j (in-row rows t 2)) t (seek rows i j (suc t) n)
 
+-- The first number of a list whose transition has this second action; another number where there is none.
+unfoldable pub seek-in : List ℕ → ℕ → ℕ → List ℕ → ℕ
+seek-in rows j n [] = n
+seek-in rows j n (t ∷ ts) = cond (eqb j (in-row rows t 2)) t (seek-in rows j n ts)
+
 -- Of n items so many come before the first that names no transition; the others' transitions stand in a list.
 abbrev pub found-says : List ℕ → List ℕ → ℕ → ℕ → List ℕ → Answer (List Transition)
 found-says rows arcs n found ts = cond (ltb found n) (refused no-transition found) (good (map (transition-in rows arcs) (take n ts)))

@@ -3,42 +3,55 @@ ghost use mathlib.Core.Path.{_≡_};
 ghost use mathlib.Core.Bool.{true};
 ghost use mathlib.Core.List.{List};
 ghost use Prim.Native.Nat.{ℕ, _*_, _<_, _≤_};
-ghost use lib.ListN.{length, getD};
+ghost use lib.ListN.{length, getD, replicate};
 ghost use lib.Dec.{leb};
 ghost use Rattle.field.specs.Lists.{all};
 ghost use Rattle.algebra.specs.Firing.{transitions-named, fire-items};
-ghost use Rattle.step.specs.FormSays.{paired};
+ghost use Rattle.net.specs.Chains.{Chains};
+ghost use Rattle.step.specs.FormSays.{paired, Bytes};
 ghost use Rattle.step.specs.Naming.{transitions-within, seek, found-says, InOrder};
 ghost use Rattle.step.specs.Says.{Moves};
 use crate::Fired;
+use crate::form;
 use crate::moving;
 
-// The first transition, of so many, that has these two actions; the number of transitions where there is none.
-fn find(rows: &[u16], transitions: usize, first: usize, second: usize) -> usize
-    requires { ⌜ 6 * transitions ≤ length (now rows) ⌝ }
+// The transition, of so many, that has these two actions; the number of transitions where there is none. Only the chain of the first
+// action is walked.
+fn find(
+    rows: &[u16],
+    transitions: usize,
+    head: &[u16; 256],
+    next: &[u16; 1024],
+    first: usize,
+    second: usize,
+) -> usize
+    requires { ⌜ (first < 256) × (transitions ≤ 1024) × (6 * transitions ≤ length (now rows)) ⌝ }
+    requires { ⌜ Chains (now rows) transitions (now head) (now next) ⌝ }
     ensures { λ r. ⌜ r ≡ seek (now (rows .entry)) first second 0 transitions ⌝ }
 {
-    let mut t: usize = 0;
+    let mut t = moving::wide(head[first]);
     while t < transitions {
-        if (first == net::number(rows, t, 1)) & (second == net::number(rows, t, 2)) {
+        if second == net::number(rows, t, 2) {
             return t;
         } else {
-            t += 1;
+            t = moving::wide(next[t]);
         }
     }
-    t
+    transitions
 }
 
 // How many items come before the first that names no transition. What the others name is written.
 fn find_items(
     rows: &[u16],
     transitions: usize,
+    head: &[u16; 256],
+    next: &[u16; 1024],
     firsts: &[u16],
     seconds: &[u16],
     ts: &mut [u16],
 ) -> usize
-    requires { ⌜ (transitions ≤ 1024) × (6 * transitions ≤ length (now rows)) ⌝ }
-    requires { ⌜ (length (now firsts) ≡ length (now seconds)) × (length (now firsts) ≡ length (now ts)) ⌝ }
+    requires { ⌜ (transitions ≤ 1024) × (6 * transitions ≤ length (now rows)) × Chains (now rows) transitions (now head) (now next) ⌝ }
+    requires { ⌜ (length (now firsts) ≡ length (now seconds)) × (length (now firsts) ≡ length (now ts)) × Bytes (length (now firsts)) (now firsts) ⌝ }
     ensures says { λ r. ⌜ ((arcs : List ℕ) → found-says (now (rows .entry)) arcs (length (now (firsts .entry))) r (now (ts .exit)) ≡ transitions-named (transitions-within (now (rows .entry)) arcs transitions) 0 (paired (now (firsts .entry)) (now (seconds .entry)))) ⌝ }
     ensures fits { λ r. ⌜ (length (now (firsts .entry)) ≤ r → (i : ℕ) → i < length (now (firsts .entry)) → getD (now (ts .exit)) i 0 < transitions) ⌝ }
 {
@@ -47,6 +60,8 @@ fn find_items(
         let t = find(
             rows,
             transitions,
+            head,
+            next,
             moving::wide(firsts[i]),
             moving::wide(seconds[i]),
         );
@@ -60,11 +75,14 @@ fn find_items(
     i
 }
 
-// A step's items, given by two lists of actions, at the net's part of a marking. `ts` is room for their transitions.
+// A step's items, given by two lists of actions, at the net's part of a marking. `head` and `next` are the index of the transitions by
+// their first action, and `ts` is room for the items' transitions.
 pub fn fire_items(
     rows: &[u16],
     arcs: &[u16],
     transitions: usize,
+    head: &[u16; 256],
+    next: &[u16; 1024],
     firsts: &[u16],
     seconds: &[u16],
     ts: &mut [u16],
@@ -72,12 +90,52 @@ pub fn fire_items(
 ) -> Fired
     requires { ⌜ InOrder (now rows) (now arcs) transitions (length (now marking)) ⌝ }
     requires { ⌜ all (λ x. leb x 1) (now marking) ≡ true ⌝ }
-    requires { ⌜ (length (now firsts) ≡ length (now seconds)) × (length (now firsts) ≡ length (now ts)) ⌝ }
+    requires { ⌜ Chains (now rows) transitions (now head) (now next) ⌝ }
+    requires { ⌜ (length (now firsts) ≡ length (now seconds)) × (length (now firsts) ≡ length (now ts)) × Bytes (length (now firsts)) (now firsts) ⌝ }
     ensures { λ r. ⌜ Moves r (now (marking .entry)) (now (marking .exit)) (fire-items (transitions-within (now (rows .entry)) (now (arcs .entry)) transitions) (now (marking .entry)) (paired (now (firsts .entry)) (now (seconds .entry)))) ⌝ }
 {
-    let found = find_items(rows, transitions, firsts, seconds, ts);
+    let found = find_items(rows, transitions, head, next, firsts, seconds, ts);
     if found < firsts.len() {
         return Fired::Refused(field::NO_TRANSITION, found);
     }
     moving::move_tokens(rows, arcs, marking, ts)
+}
+
+// Room for the index of the transitions by their first action.
+pub fn no_nexts() -> [u16; field::TRANSITION_LIMIT]
+    ensures { λ r. ⌜ r ≡ replicate 1024 0 ⌝ }
+{
+    [0u16; field::TRANSITION_LIMIT]
+}
+
+// The same where there is no index of the transitions yet.
+pub fn index_and_fire(
+    rows: &[u16],
+    arcs: &[u16],
+    transitions: usize,
+    firsts: &[u16],
+    seconds: &[u16],
+    marking: &mut [u8],
+) -> Fired
+    requires { ⌜ InOrder (now rows) (now arcs) transitions (length (now marking)) ⌝ }
+    requires { ⌜ all (λ x. leb x 1) (now marking) ≡ true ⌝ }
+    requires { ⌜ (length (now firsts) ≡ length (now seconds)) × (length (now firsts) ≤ 256) × Bytes (length (now firsts)) (now firsts) ⌝ }
+    ensures { λ r. ⌜ Moves r (now (marking .entry)) (now (marking .exit)) (fire-items (transitions-within (now (rows .entry)) (now (arcs .entry)) transitions) (now (marking .entry)) (paired (now (firsts .entry)) (now (seconds .entry)))) ⌝ }
+{
+    let mut head = net::chains::no_heads();
+    let mut next = no_nexts();
+    net::index_by_first(rows, transitions, &mut head, &mut next);
+    let mut ts = form::no_numbers();
+    let count = firsts.len();
+    fire_items(
+        rows,
+        arcs,
+        transitions,
+        &head,
+        &next,
+        firsts,
+        seconds,
+        &mut ts[..count],
+        marking,
+    )
 }

@@ -2,7 +2,7 @@
 // carries, the step's offset, is known to the caller.
 ghost use mathlib.Core.Path.{_≡_};
 ghost use Prim.Native.Nat.{ℕ};
-ghost use lib.ListN.{length};
+ghost use lib.ListN.{length, replicate};
 ghost use Rattle.step.specs.Form.{read-item, read-items, read-step, read-lent-step};
 ghost use Rattle.step.specs.FormSays.{tag-count, item-says, ItemFits, item-number, items-say, ItemsFit, head-says, HeadFits, step-head, step-says, StepFits};
 
@@ -38,6 +38,13 @@ pub enum HeadAnswer {
 pub enum StepAnswer {
     Refused(usize),
     Step { items: usize, bytes: usize },
+}
+
+// Room for a number for each item of a step.
+pub fn no_numbers() -> [u16; MOST_ITEMS]
+    ensures { λ r. ⌜ r ≡ replicate 256 0 ⌝ }
+{
+    [0u16; MOST_ITEMS]
 }
 
 // The actions that an item of a tag has; 0 where the tag is no item's.

@@ -1,7 +1,6 @@
 // Fires a step at a marking, and lists the enabled transitions: the calls that are lent tables which may be no net, and a marking which
 // may be none.
 ghost use mathlib.Core.Path.{_≡_};
-ghost use lib.ListN.{replicate};
 ghost use Rattle.net.specs.Lent.{lent};
 ghost use Rattle.step.specs.Fire;
 ghost use Rattle.step.specs.Enabled;
@@ -26,13 +25,6 @@ pub enum Enabling {
     Refused(usize, usize),
 }
 
-// Room for a number for each item of a step.
-pub fn no_numbers() -> [u16; form::MOST_ITEMS]
-    ensures { λ r. ⌜ r ≡ replicate 256 0 ⌝ }
-{
-    [0u16; form::MOST_ITEMS]
-}
-
 // Fires the one step field that is lent. On refusal the marking is as it was, and what lies past the net's part is never touched.
 pub fn fire(
     kinds: &[u8],
@@ -53,19 +45,17 @@ pub fn fire(
     if !net::tokens::is_marking(marking, places) {
         return Fired::Refused(field::NO_MARKING, 0);
     }
-    let mut firsts = no_numbers();
-    let mut seconds = no_numbers();
+    let mut firsts = form::no_numbers();
+    let mut seconds = form::no_numbers();
     match form::read_lent_step(step, &mut firsts, &mut seconds) {
         ItemsAnswer::Refused(number) => Fired::Refused(number, 0),
         ItemsAnswer::Items(count) => {
-            let mut ts = no_numbers();
-            firing::fire_items(
+            firing::index_and_fire(
                 rows,
                 arcs,
                 transitions,
                 &firsts[..count],
                 &seconds[..count],
-                &mut ts[..count],
                 &mut marking[..places],
             )
         }

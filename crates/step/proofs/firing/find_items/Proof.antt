@@ -8,20 +8,20 @@ use lib.ListN.{length, getD, take, drop, length-set}
 use Rattle.algebra.specs.Firing.{transitions-named}
 use Rattle.step.specs.FormSays.{paired}
 use Rattle.step.specs.Naming.{transition-in, transitions-within}
-use Rattle.step.proofs.ItemLists.{behind, behind-none}
-use Rattle.step.proofs.Names.{naming-end, naming-none, naming-turn, below-set}
+use Rattle.step.proofs.ItemLists.{behind, behind-none, below-set}
+use Rattle.step.proofs.Names.{naming-end, naming-none, naming-turn}
 use Rattle.step.proofs.firing.find_items.Statement.{statement}
 use Rattle.step.proofs.firing.find_items.Tie as tie
 
 abbrev Inv-loop : tie.InvT-loop
-Inv-loop rows transitions firsts seconds ts₀ i₀ ts i =
+Inv-loop rows transitions head next firsts seconds ts₀ i₀ ts i =
     (i ≤ length firsts) × (length ts ≡ length ts₀)
     × ((k : ℕ) → k < i → getD ts k 0 < transitions)
     × ((arcs : List ℕ) → transitions-named (transitions-within rows arcs transitions) 0 (paired firsts seconds)
     ≡ behind (map (transition-in rows arcs) (take i ts)) (transitions-named (transitions-within rows arcs transitions) i (paired (drop i firsts) (drop i seconds))))
 
 abbrev μ-loop : tie.MeasureT-loop
-μ-loop rows transitions firsts seconds ts₀ i₀ ts i = length firsts - i
+μ-loop rows transitions head next firsts seconds ts₀ i₀ ts i = length firsts - i
 
 pub find-items-spec : {M : Type 1} → statement M
 find-items-spec =
@@ -36,7 +36,7 @@ find-items-spec =
     (λ c. search needs)
     (λ c. search needs)
     (λ c κs. search needs)
-    (λ c κs. search needs)
+    (λ c κs. let p = c .before .before .before .before .before .before .before .before .before .before .pre in ((omega (arith, c .before .before .wide .ensures .0, p .1 .2 (c .before .before .before .before .before .loop .i) (omega arith)), p .0 .0, p .0 .1), p .0 .2))
     (λ c. search needs)
     (λ c. search needs)
     (λ c. search needs)

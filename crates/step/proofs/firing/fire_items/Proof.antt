@@ -11,18 +11,18 @@ pub fire-items-spec : {M : Type 1} → statement M
 fire-items-spec =
     tie.close
     (tie.spec
-    (λ c κs. ((c .before .before .before .before .before .before .before .pre .0 .few, c .before .before .before .before .before .before .before .pre .0 .reach), c .before .before .before .before .before .before .before .pre .1 .1))
+    (λ c κs. let p = c .before .before .before .before .before .before .before .pre in ((p .0 .few, p .0 .reach, p .1 .1 .0), p .1 .1 .1))
     (λ c. search needs)
     (λ c.
     let a = c .before .before .before .before .before .before .before .before .before .before .before .args in let g = c .before .before .before .find-items in
-    item-unknown (a .rows .now) (a .arcs .now) (a .transitions) _ (a .marking .now) (g .last .1 .1 .1 .1 .0) _ _ (g .ensures .0 (a .arcs .now)) (c .if1 .taken))
+    item-unknown (a .rows .now) (a .arcs .now) (a .transitions) _ (a .marking .now) (g .last .1 .1 .1 .1 .1 .1 .0) _ _ (g .ensures .0 (a .arcs .now)) (c .if1 .taken))
     (λ c κs.
     let a = c .before .before .before .before .before .before .before .before .before .before .before .before .before .args in let g = c .before .before .before .before .before .find-items in
-    items-fit (a .rows .now) (a .arcs .now) (a .transitions) _ (a .marking .now) (g .last .1 .1 .1 .1 .0) _ _ (g .ensures .0 (a .arcs .now)) (c .before .before .if1 .left)
-    (g .kept .1 .1 .1 .1 .0 ∙ sym (c .before .before .before .before .before .before .before .before .before .before .before .before .before .pre .1 .1 .1)) (g .ensures .1 (c .before .before .if1 .left)) (c .before .before .before .before .before .before .before .before .before .before .before .before .before .pre .0))
+    items-fit (a .rows .now) (a .arcs .now) (a .transitions) _ (a .marking .now) (g .last .1 .1 .1 .1 .1 .1 .0) _ _ (g .ensures .0 (a .arcs .now)) (c .before .before .if1 .left)
+    (g .kept .1 .1 .1 .1 .1 .1 .0 ∙ sym (c .before .before .before .before .before .before .before .before .before .before .before .before .before .pre .1 .1 .1 .1)) (g .ensures .1 (c .before .before .if1 .left)) (c .before .before .before .before .before .before .before .before .before .before .before .before .before .pre .0))
     (λ c. search needs)
     (λ c. search needs)
     (λ c.
     let a = c .before .before .before .before .before .before .before .before .before .before .before .before .before .before .before .before .args in let g = c .before .before .before .before .before .before .before .before .find-items in
-    items-known (a .rows .now) (a .arcs .now) (a .transitions) _ (a .marking .now) (g .last .1 .1 .1 .1 .0) _ _ (g .ensures .0 (a .arcs .now)) (c .before .before .before .before .before .if1 .left)
-    (g .kept .1 .1 .1 .1 .0 ∙ sym (c .before .before .before .before .before .before .before .before .before .before .before .before .before .before .before .before .pre .1 .1 .1)) (g .ensures .1 (c .before .before .before .before .before .if1 .left)) (c .before .before .before .before .before .before .before .before .before .before .before .before .before .before .before .before .pre .0) (c .before .before .before .before .before .before .before .before .before .before .before .before .before .before .before .before .pre .1 .0) _ _ (c .before .before .move-tokens .ensures)))
+    items-known (a .rows .now) (a .arcs .now) (a .transitions) _ (a .marking .now) (g .last .1 .1 .1 .1 .1 .1 .0) _ _ (g .ensures .0 (a .arcs .now)) (c .before .before .before .before .before .if1 .left)
+    (g .kept .1 .1 .1 .1 .1 .1 .0 ∙ sym (c .before .before .before .before .before .before .before .before .before .before .before .before .before .before .before .before .pre .1 .1 .1 .1)) (g .ensures .1 (c .before .before .before .before .before .if1 .left)) (c .before .before .before .before .before .before .before .before .before .before .before .before .before .before .before .before .pre .0) (c .before .before .before .before .before .before .before .before .before .before .before .before .before .before .before .before .pre .1 .0) _ _ (c .before .before .move-tokens .ensures)))

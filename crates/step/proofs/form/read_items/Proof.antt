@@ -6,9 +6,9 @@ use native.Mathlib.Omega.{arith}
 use borrow.Author.Needs.{needs}
 use lib.ListN.{length, drop, length-set}
 use Rattle.step.specs.Form.{read-items}
-use Rattle.step.specs.FormSays.{items-in, paired, ItemFits}
+use Rattle.step.specs.FormSays.{items-in, paired, ItemFits, Bytes}
 use Rattle.step.specs.declared.form.ItemAnswer.{ItemAnswer}
-use Rattle.step.proofs.ItemLists.{behind, behind-none, items-end, items-refused, items-turn, says-refused, says-item, fits-item}
+use Rattle.step.proofs.ItemLists.{below-set, behind, behind-none, items-end, items-refused, items-turn, says-refused, says-item, fits-item}
 use Rattle.step.proofs.form.read_items.Statement.{statement}
 use Rattle.step.proofs.form.read_items.Tie as tie
 use Rattle.step.proofs.form.read_items.Reads as reads
@@ -19,7 +19,7 @@ use Rattle.step.proofs.form.numbers_in.Reads as numbers-in-reads
 
 abbrev Inv-loop : tie.InvT-loop
 Inv-loop body firsts₀ seconds₀ count₀ at₀ least₀ firsts seconds count at least =
-    (count ≤ least) × (least ≤ 256) × (at ≤ length body) × (length firsts ≡ 256) × (length seconds ≡ 256)
+    (count ≤ least) × (least ≤ 256) × (at ≤ length body) × (length firsts ≡ 256) × (length seconds ≡ 256) × Bytes count firsts
     × ((o : ℕ) → read-items o 0 0 body ≡ behind (items-in count firsts seconds) (read-items o 0 least (drop at body)))
 
 abbrev μ-loop : tie.MeasureT-loop
@@ -55,7 +55,8 @@ loop-again c = let l = c .before .before .before .before .before .before .loop i
   omega (arith, fits c),
   simp length-set (l .inv .3),
   simp length-set (l .inv .4),
-  λ o. items-turn o (c .before .before .before .before .before .before .before .before .before .before .before .before .before .before .args .body .now) (l .firsts) (l .seconds) (l .count) (l .at) (l .least) (l .inv .5 o) (omega arith) (first c) (second c) (bytes c) (omega (arith, fits c)) (omega (arith, fits c)) (fits c .2)
+  below-set (l .firsts) (l .count) (first c) 256 (omega (arith, fits c)) (l .inv .5) (omega (arith, fits c)),
+  λ o. items-turn o (c .before .before .before .before .before .before .before .before .before .before .before .before .before .before .args .body .now) (l .firsts) (l .seconds) (l .count) (l .at) (l .least) (l .inv .6 o) (omega arith) (first c) (second c) (bytes c) (omega (arith, fits c)) (omega (arith, fits c)) (fits c .2)
       (says-item o (l .least) (l .at) (c .before .before .before .before .before .before .before .before .before .before .before .before .before .before .args .body .now) (c .before .before .before .read-item .result) (c .before .before .before .read-item .ensures .0 o) (first c) (second c) (bytes c) (c .before .r .given .1)),
 )
 
@@ -67,7 +68,7 @@ read-items-spec =
     μ-loop
     (λ c κs. search needs)
     (λ c κs. search needs)
-    (λ c. (omega arith, omega arith, omega arith, omega arith, omega arith, λ o. unfold paired in behind-none (read-items o 0 0 (c .before .before .before .before .before .before .before .args .body .now))))
+    (λ c. (omega arith, omega arith, omega arith, omega arith, omega arith, λ k h. absurd (omega arith), λ o. unfold paired in behind-none (read-items o 0 0 (c .before .before .before .before .before .before .before .args .body .now))))
     (λ c. search needs)
     (λ c. search needs)
     (λ c. search needs)
@@ -78,7 +79,7 @@ read-items-spec =
     (λ c.
     let l = c .before .before .before .before .before .before .loop in
     let body = c .before .before .before .before .before .before .before .before .before .before .before .before .before .before .args .body .now in (
-      λ o. items-refused o body (l .firsts) (l .seconds) (l .count) (l .at) (l .least) (l .inv .5 o) (omega arith) _
+      λ o. items-refused o body (l .firsts) (l .seconds) (l .count) (l .at) (l .least) (l .inv .6 o) (omega arith) _
           (says-refused o (l .least) (l .at) body (c .before .before .before .read-item .result) (c .before .before .before .read-item .ensures .0 o) (c .before .enum-told .given .0 .0) _ (c .before .enum-told .given .1) (c .number-of .ensures)),
       tt,
     ))
@@ -92,4 +93,4 @@ read-items-spec =
     (λ c. omega (arith, fits c))
     (λ c. omega (arith, fits c))
     loop-again
-    (λ c. (λ o. items-end o (c .before .before .before .before .before .before .before .before .before .args .body .now) (c .before .loop .firsts) (c .before .loop .seconds) (c .before .loop .count) (c .before .loop .at) (c .before .loop .least) (c .before .loop .inv .5 o) (omega arith), omega arith)))
+    (λ c. (λ o. items-end o (c .before .before .before .before .before .before .before .before .before .args .body .now) (c .before .loop .firsts) (c .before .loop .seconds) (c .before .loop .count) (c .before .loop .at) (c .before .loop .least) (c .before .loop .inv .6 o) (omega arith), (omega arith, omega arith, omega arith, c .before .loop .inv .5))))

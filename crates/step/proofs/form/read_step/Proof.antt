@@ -40,5 +40,6 @@ read-step-spec =
     (λ c. (
       λ at. step-read at (c .before .before .before .before .before .before .before .before .before .before .before .before .args .s .now) (c .before .before .before .before .before .before .before .before .before .before .step-head .result) (c .before .before .before .before .before .before .before .before .before .before .step-head .ensures .0 at) _ (c .before .before .before .before .before .before .before .before .len .given .1)
           (c .before .before .before .read-items .result) _ _ (c .before .before .before .read-items .ensures .0 at) _ (c .before .count .given .1),
-      omega (arith, fits (c .before .before .before .before .before .before .before), items-fit _ (c .before .before .before .read-items .result) _ _ (c .before .before .before .read-items .ensures .1) (c .before .count .given .1)),
+      (let k = items-fit _ (c .before .before .before .read-items .result) (c .before .before .before .read-items .last .1 .0) (c .before .before .before .read-items .last .1 .1 .0) (c .before .before .before .read-items .ensures .1) (c .before .count .given .1) in
+          (omega (arith, fits (c .before .before .before .before .before .before .before)), omega (arith, fits (c .before .before .before .before .before .before .before)), k .0, k .1, k .2, k .3)),
     )))
