@@ -4,7 +4,7 @@ use Prim.Native.Nat.{ℕ, suc, _+_, _≤_, _<_}
 use native.Mathlib.Omega.{arith}
 use native.Mathlib.Numerals.{add-one}
 use native.Mathlib.Nat.{add-zero}
-use mathlib.Core.Path.{_≡_, refl, sym, _∙_, ap, ap₂}
+use mathlib.Core.Path.{_≡_, refl, sym, _∙_, ap, ap₂, subst}
 use mathlib.Core.Bool.{Bool, true, false, cond, _||_}
 use mathlib.Core.List.{List, [], _∷_, _++_, append-assoc, append-nil}
 use lib.ListN.{length, getD, take, drop, set, length-set, length-take, length-append, drop-of-length-le}
@@ -13,7 +13,8 @@ use borrow.Author.Tests.{lt-ltb, le-ltb}
 use Rattle.algebra.specs.Places.{Place}
 use Rattle.algebra.specs.Arcs.{numbers}
 use Rattle.arcs.specs.Asked.{Begins}
-use Rattle.arcs.specs.Merge.{into, union, Pair, Mergeable, Next}
+use Rattle.arcs.specs.Merge.{into, union, pick, Pair, Mergeable, Next}
+use Rattle.arcs.specs.declared.merge.Pick.{Pick}
 
 into-low : (a : ℕ) (rest : List ℕ → List ℕ) (b : ℕ) (bs : List ℕ) → a < b → into a rest (b ∷ bs) ≡ a ∷ rest (b ∷ bs)
 unfolding into
@@ -128,17 +129,17 @@ module _ (A B : List ℕ) (a b : ℕ) (p : Pair A B a b) (i j : ℕ) where
   R-stays : drop j (take b B) ≡ R 0
   R-stays = ap (λ n. drop n (take b B)) (sym (add-zero j))
 
-  go-left : (v : ℕ) → i < a → j ≤ b → v ≤ 65535 → union (drop i (take a A)) (drop j (take b B)) ≡ v ∷ union (L 1) (drop j (take b B)) → Next A B a b i j v 1 0
+  go-left : (v : ℕ) → i < a → j ≤ b → v ≤ 65535 → union (drop i (take a A)) (drop j (take b B)) ≡ v ∷ union (L 1) (drop j (take b B)) → Next A B a b i j (pick v 1 0)
   go-left v h k s m = record { first = omega arith; second = omega arith; some = omega arith; small = s; is = m ∙ ap (λ l. v ∷ union (L 1) l) R-stays }
 
-  go-right : (v : ℕ) → i ≤ a → j < b → v ≤ 65535 → union (drop i (take a A)) (drop j (take b B)) ≡ v ∷ union (drop i (take a A)) (R 1) → Next A B a b i j v 0 1
+  go-right : (v : ℕ) → i ≤ a → j < b → v ≤ 65535 → union (drop i (take a A)) (drop j (take b B)) ≡ v ∷ union (drop i (take a A)) (R 1) → Next A B a b i j (pick v 0 1)
   go-right v h k s m = record { first = omega arith; second = omega arith; some = omega arith; small = s; is = m ∙ ap (λ l. v ∷ union l (R 1)) L-stays }
 
-  pub next-none-left : {v : ℕ} → i ≤ a → a ≤ i → j < b → v ≤ 65535 → v ≡ getD B j 0 → Next A B a b i j v 0 1
+  pub next-none-left : {v : ℕ} → i ≤ a → a ≤ i → j < b → v ≤ 65535 → v ≡ getD B j 0 → Next A B a b i j (pick v 0 1)
   next-none-left {v} h z k s e =
       go-right v h k s (none-left _ _ _ v (nothing A a i z) (head B b j (p .second) k ∙ ap (λ x. x ∷ R 1) (sym e)))
 
-  pub next-none-right : {v : ℕ} → i < a → j ≤ b → b ≤ j → v ≤ 65535 → v ≡ getD A i 0 → Next A B a b i j v 1 0
+  pub next-none-right : {v : ℕ} → i < a → j ≤ b → b ≤ j → v ≤ 65535 → v ≡ getD A i 0 → Next A B a b i j (pick v 1 0)
   next-none-right {v} h k z s e =
       go-left v h k s (none-right _ _ _ v (nothing B b j z) (head A a i (p .first) h ∙ ap (λ x. x ∷ L 1) (sym e)))
 
@@ -149,34 +150,38 @@ module _ (A B : List ℕ) (a b : ℕ) (p : Pair A B a b) (i j : ℕ) where
     of-second : drop j (take b B) ≡ y ∷ R 1
     of-second = head B b j (p .second) k ∙ ap (λ z. z ∷ R 1) (sym ey)
 
-    pub next-less : x ≤ 65535 → x < y → Next A B a b i j x 1 0
+    pub next-less : x ≤ 65535 → x < y → Next A B a b i j (pick x 1 0)
     next-less s l = go-left x h (omega arith) s (less _ _ _ _ x y of-first of-second l)
 
-    pub next-more : y ≤ 65535 → y < x → Next A B a b i j y 0 1
+    pub next-more : y ≤ 65535 → y < x → Next A B a b i j (pick y 0 1)
     next-more s l = go-right y (omega arith) k s (more _ _ _ _ x y of-first of-second l)
 
-    pub next-both : x ≤ 65535 → x ≡ y → Next A B a b i j x 1 1
+    pub next-both : x ≤ 65535 → x ≡ y → Next A B a b i j (pick x 1 1)
     next-both s l = record { first = omega arith; second = omega arith; some = omega arith; small = s; is = both _ _ _ _ x y of-first of-second l }
+
+-- What is picked is what is next.
+pub next-picked : {A B : List ℕ} {a b i j : ℕ} {r q : Pick} → r ≡ q → Next A B a b i j q → Next A B a b i j r
+next-picked {A} {B} {a} {b} {i} {j} e x = subst (Next A B a b i j) (sym e) x
 
 module _ (A B before : List ℕ) (a b : ℕ) (p : Mergeable A B before a b) where
   pub merge-start : Merging A B a b before 0 0 0
   merge-start = record { first = omega arith; second = omega arith; long = p .long; is = refl; written = omega arith }
 
   -- There is room for one more.
-  pub merge-room : (out : List ℕ) (i j n v l r : ℕ) → Merging A B a b out i j n → Next A B a b i j v l r → n < 2048
-  merge-room out i j n v l r g x =
-      let rest = union (drop (i + l) (take a A)) (drop (j + r) (take b B)) in
-      let e : length (take n out ++ (v ∷ rest)) ≡ length (union (take a A) (take b B)) = ap length (ap (λ t. take n out ++ t) (sym (x .is)) ∙ g .is) in
-      omega (arith, length-append (take n out) (v ∷ rest), length-take-le n out (omega (arith, g .long, g .written)), p .room, e)
+  pub merge-room : (out : List ℕ) (i j n : ℕ) (q : Pick) → Merging A B a b out i j n → Next A B a b i j q → n < 2048
+  merge-room out i j n q g x =
+      let rest = union (drop (i + q .left) (take a A)) (drop (j + q .right) (take b B)) in
+      let e : length (take n out ++ (q .value ∷ rest)) ≡ length (union (take a A) (take b B)) = ap length (ap (λ t. take n out ++ t) (sym (x .is)) ∙ g .is) in
+      omega (arith, length-append (take n out) (q .value ∷ rest), length-take-le n out (omega (arith, g .long, g .written)), p .room, e)
 
-  pub merge-step : (out : List ℕ) (i j n v l r : ℕ) → Merging A B a b out i j n → Next A B a b i j v l r → Merging A B a b (set out n v) (i + l) (j + r) (n + 1)
-  merge-step out i j n v l r g x =
-      let m = merge-room out i j n v l r g x in
+  pub merge-step : (out : List ℕ) (i j n : ℕ) (q : Pick) → Merging A B a b out i j n → Next A B a b i j q → Merging A B a b (set out n (q .value)) (i + q .left) (j + q .right) (n + 1)
+  merge-step out i j n q g x =
+      let m = merge-room out i j n q g x in
       record {
         first = x .first;
         second = x .second;
-        long = length-set out n v ∙ g .long;
-        is = put out n v _ (omega (arith, g .long)) ∙ ap (λ t. take n out ++ t) (sym (x .is)) ∙ g .is;
+        long = length-set out n (q .value) ∙ g .long;
+        is = put out n (q .value) _ (omega (arith, g .long)) ∙ ap (λ t. take n out ++ t) (sym (x .is)) ∙ g .is;
         written = omega arith;
       }
 

@@ -5,6 +5,7 @@ use mathlib.Core.Bool.{cond}
 use mathlib.Core.List.{List, [], _∷_}
 use lib.ListN.{length, take, drop}
 use lib.Dec.{ltb}
+use Rattle.arcs.specs.declared.merge.Pick.{Pick}
 
 unfoldable pub into : ℕ → (List ℕ → List ℕ) → List ℕ → List ℕ
 into a rest [] = a ∷ rest []
@@ -28,10 +29,13 @@ pub record Mergeable (A B out : List ℕ) (a b : ℕ) : Type 0 where
   pub long : length out ≡ 2048
   pub room : length (union (take a A) (take b B)) ≤ 2048
 
+abbrev pub pick : ℕ → ℕ → ℕ → Pick
+pick value left right = record { value = value; left = left; right = right }
+
 -- The next number, and how far each list moves on.
-pub record Next (A B : List ℕ) (a b i j value left right : ℕ) : Type 0 where
-  pub first : i + left ≤ a
-  pub second : j + right ≤ b
-  pub some : 0 < left + right
-  pub small : value ≤ 65535
-  pub is : union (drop i (take a A)) (drop j (take b B)) ≡ value ∷ union (drop (i + left) (take a A)) (drop (j + right) (take b B))
+pub record Next (A B : List ℕ) (a b i j : ℕ) (p : Pick) : Type 0 where
+  pub first : i + p .left ≤ a
+  pub second : j + p .right ≤ b
+  pub some : 0 < p .left + p .right
+  pub small : p .value ≤ 65535
+  pub is : union (drop i (take a A)) (drop j (take b B)) ≡ p .value ∷ union (drop (i + p .left) (take a A)) (drop (j + p .right) (take b B))

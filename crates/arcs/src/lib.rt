@@ -1,10 +1,10 @@
 // 01, "Box construction": the input and output places of one transition, found from the node table and the counts of every node. The
 // action is looked up from the root; its own entry or exit place is one position, and on the way back up each node says how the
 // positions change. So the work grows with the lists made on the way, and not with the places of the net.
-pub mod merge;
+mod merge;
 pub mod moves;
-pub mod search;
-pub mod widen;
+mod search;
+mod widen;
 
 use crate::merge::merge;
 use crate::moves::Side;
@@ -101,6 +101,7 @@ pub fn arcs_of_item(
     arcs_of_two(rows, nodes, counts, first, second, side, out)
 }
 
+// The places that a transition consumes from.
 pub fn inputs_of_item(
     rows: &[u16; 8196],
     nodes: usize,
@@ -115,6 +116,7 @@ pub fn inputs_of_item(
     arcs_of_item(rows, nodes, counts, first, second, Side::Inputs, out)
 }
 
+// The places that it produces into.
 pub fn outputs_of_item(
     rows: &[u16; 8196],
     nodes: usize,

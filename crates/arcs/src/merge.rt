@@ -1,9 +1,10 @@
 // Two rising lists made one: the numbers of both, in order, and a number of both once.
 use plan::exclusive::wide;
+ghost use mathlib.Core.Path.{_≡_};
 ghost use Prim.Native.Nat.{_+_, _≤_, _<_};
 ghost use lib.ListN.{take};
 ghost use Rattle.arcs.specs.Asked.{Begins};
-ghost use Rattle.arcs.specs.Merge.{union, Pair, Mergeable, Next};
+ghost use Rattle.arcs.specs.Merge.{union, pick, Pair, Mergeable, Next};
 
 // The next number of two rising lists, and how far each moves on.
 pub struct Pick {
@@ -12,47 +13,36 @@ pub struct Pick {
     pub right: usize,
 }
 
+fn picked(value: usize, left: usize, right: usize) -> Pick
+    ensures { λ r. ⌜ r ≡ pick value left right ⌝ }
+{
+    Pick {
+        value: value,
+        left: left,
+        right: right,
+    }
+}
+
 // The lesser of the numbers that are next in the two lists; where they are the same, both lists move on.
 fn next(first: &[u16; 2048], a: usize, second: &[u16; 2048], b: usize, i: usize, j: usize) -> Pick
     requires { ⌜ Pair (now first) (now second) a b × (i ≤ a) × (j ≤ b) × (i + j < a + b) ⌝ }
-    ensures { λ r. ⌜ Next (now (first .entry)) (now (second .entry)) a b i j (r .value) (r .left) (r .right) ⌝ }
+    ensures { λ r. ⌜ Next (now (first .entry)) (now (second .entry)) a b i j r ⌝ }
 {
     if a <= i {
-        let y = wide(second[j]);
-        return Pick {
-            value: y,
-            left: 0,
-            right: 1,
-        };
+        return picked(wide(second[j]), 0, 1);
     }
     let x = wide(first[i]);
     if b <= j {
-        return Pick {
-            value: x,
-            left: 1,
-            right: 0,
-        };
+        return picked(x, 1, 0);
     }
     let y = wide(second[j]);
     if x < y {
-        return Pick {
-            value: x,
-            left: 1,
-            right: 0,
-        };
+        return picked(x, 1, 0);
     }
     if y < x {
-        return Pick {
-            value: y,
-            left: 0,
-            right: 1,
-        };
+        return picked(y, 0, 1);
     }
-    Pick {
-        value: x,
-        left: 1,
-        right: 1,
-    }
+    picked(x, 1, 1)
 }
 
 // The first `a` numbers of one array and the first `b` of another, merged into a third.

@@ -30,12 +30,12 @@ cast-out c = omega (arith, c .before .next .ensures .small)
 mul-out : tie.Need-mul-out Inv-loop μ-loop
 mul-out c =
     let a = c .before .before .before .before .args in
-    omega (arith, merge-room (a .first .now) (a .second .now) (a .out .now) (a .a) (a .b) (c .before .before .before .before .pre) _ _ _ _ _ _ _ (c .before .before .before .loop .inv) (c .before .next .ensures))
+    omega (arith, merge-room (a .first .now) (a .second .now) (a .out .now) (a .a) (a .b) (c .before .before .before .before .pre) _ _ _ _ _ (c .before .before .before .loop .inv) (c .before .next .ensures))
 
 element-write-out : tie.Need-element-write-out Inv-loop μ-loop
 element-write-out c =
     let a = c .before .before .before .before .args in
-    omega (arith, merge-room (a .first .now) (a .second .now) (a .out .now) (a .a) (a .b) (c .before .before .before .before .pre) _ _ _ _ _ _ _ (c .before .before .before .loop .inv) (c .before .next .ensures))
+    omega (arith, merge-room (a .first .now) (a .second .now) (a .out .now) (a .a) (a .b) (c .before .before .before .before .pre) _ _ _ _ _ (c .before .before .before .loop .inv) (c .before .next .ensures))
 
 add-i : tie.Need-add-i Inv-loop μ-loop
 add-i c = omega (arith, c .before .before .next .ensures .first, c .before .before .before .before .before .pre .pair .most-first)
@@ -52,7 +52,7 @@ loop-less c = omega (arith, c .before .before .before .next .ensures .some, c .b
 loop-again : tie.Need-loop-again Inv-loop μ-loop
 loop-again c =
     let a = c .before .before .before .before .before .before .args in
-    merge-step (a .first .now) (a .second .now) (a .out .now) (a .a) (a .b) (c .before .before .before .before .before .before .pre) _ _ _ _ _ _ _ (c .before .before .before .before .before .loop .inv) (c .before .before .before .next .ensures)
+    merge-step (a .first .now) (a .second .now) (a .out .now) (a .a) (a .b) (c .before .before .before .before .before .before .pre) _ _ _ _ _ (c .before .before .before .before .before .loop .inv) (c .before .before .before .next .ensures)
 
 returns : tie.Need-returns Inv-loop μ-loop
 returns c =
