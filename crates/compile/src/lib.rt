@@ -1,0 +1,2 @@
+// 01, "Net tables": the compile call, from the plan to the three lent tables.
+pub mod kinds;
