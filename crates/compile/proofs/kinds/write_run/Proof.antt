@@ -1,6 +1,6 @@
 -- `write_run` meets its contract. The loop's invariant: the whole run over the kinds at entry is what is left of it over the kinds now.
 -- The measure is what is left. Assumes nothing.
-use Prim.Native.Nat.{ℕ, _+_, _≤_}
+use Prim.Native.Nat.{_+_, _≤_}
 use native.Mathlib.Omega.{arith}
 use mathlib.Core.Path.{_≡_, refl, sym, _∙_, ap}
 use lib.ListN.{length, replicate, length-set}
