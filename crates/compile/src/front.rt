@@ -1,0 +1,97 @@
+// 01, "Refusal numbers": "Plan: 1; then fields in byte order ..; 10 after all reading; then 11, 12": the compile call's judgement before
+// any arc is made, and the work tables that the arcs are made from.
+use boxes::counts::count_places;
+use plan::PlanRead;
+use plan::exclusive::Loops;
+use plan::exclusive::check_loops;
+use plan::exclusive::number_at;
+use plan::exclusive::wide;
+use plan::read_plan;
+use transitions::Listed;
+use transitions::list_transitions;
+ghost use mathlib.Core.Path.{_≡_};
+ghost use Prim.Native.Nat.{_+_, _≤_};
+ghost use lib.Dec.{T, leb};
+ghost use lib.ListN.{getD};
+ghost use Rattle.field.specs.Limits.{place-limit};
+ghost use Rattle.algebra.specs.Expr.{Expr, actions};
+ghost use Rattle.plan.specs.Bytes.{named};
+ghost use Rattle.plan.specs.Table.{Table};
+ghost use Rattle.compile.specs.Judged.{judged};
+ghost use Rattle.compile.specs.Ready.{front-says, ready, TablesAre, Few, Fine};
+
+// The first refusal with what it carries; or how many nodes and transitions the plan has.
+pub enum Judgement {
+    Refused(usize, usize),
+    Ready { nodes: usize, transitions: usize },
+}
+
+// 11: the counts of node 0, which is the whole plan. Each is at most one above the limit, and so is too large by itself where it is cut off.
+fn places_fit(counts: &[u16]) -> bool
+    ensures { λ r. ⌜ r ≡ leb (getD (now (counts .entry)) 0 0 + (getD (now (counts .entry)) 1 0 + getD (now (counts .entry)) 2 0)) place-limit ⌝ }
+{
+    let entries = wide(number_at(counts, 0));
+    let internals = wide(number_at(counts, 1));
+    let exits = wide(number_at(counts, 2));
+    entries + (internals + exits) <= field::PLACE_LIMIT
+}
+
+// 12: the list has room for more than the limit, since what a scope takes away is listed for a while.
+fn list_few(table: &[u16; 8196], nodes: usize, list: &mut [u16; 3840]) -> Judgement
+    requires { ⌜ nodes ≤ 1366 ⌝ }
+    ensures { λ r. ⌜ ((E : Expr) → Table (now (table .entry)) nodes E → actions E ≤ 256 → T (named E) → Few E (front-says r) (now (list .entry)) (now (list .exit))) ⌝ }
+{
+    match list_transitions(table, nodes, list) {
+        Listed::TooMany => Judgement::Refused(field::TOO_MANY_TRANSITIONS, 0),
+        Listed::Many(n) => {
+            if n <= field::TRANSITION_LIMIT {
+                Judgement::Ready {
+                    nodes: nodes,
+                    transitions: n,
+                }
+            } else {
+                Judgement::Refused(field::TOO_MANY_TRANSITIONS, 0)
+            }
+        }
+    }
+}
+
+// What is asked of a plan that was read: 10, 11, 12.
+fn judge(
+    table: &[u16; 8196],
+    nodes: usize,
+    counts: &mut [u16; 4098],
+    list: &mut [u16; 3840],
+) -> Judgement
+    requires { ⌜ nodes ≤ 1366 ⌝ }
+    ensures { λ r. ⌜ ((E : Expr) → Table (now (table .entry)) nodes E → actions E ≤ 256 → T (named E) → Fine E (front-says r) (now (counts .entry)) (now (counts .exit)) (now (list .entry)) (now (list .exit))) ⌝ }
+{
+    match check_loops(table, nodes) {
+        Loops::Faulty(at) => Judgement::Refused(field::BODY_NOT_EXCLUSIVE, at),
+        Loops::Fine => {
+            count_places(table, nodes, counts);
+            if places_fit(counts) {
+                list_few(table, nodes, list)
+            } else {
+                Judgement::Refused(field::TOO_MANY_PLACES, 0)
+            }
+        }
+    }
+}
+
+// The judgement as far as 12. Where there is no refusal the three work tables begin with the plan's nodes, their counts of places, and
+// its transitions.
+pub fn front(
+    plan: &[u8],
+    table: &mut [u16; 8196],
+    counts: &mut [u16; 4098],
+    list: &mut [u16; 3840],
+) -> Judgement
+    ensures answer { λ r. ⌜ front-says r ≡ ready (now (plan .entry)) ⌝ }
+    ensures tables { λ r. ⌜ TablesAre (judged (now (plan .entry))) (now (table .entry)) (now (table .exit)) (now (counts .entry)) (now (counts .exit)) (now (list .entry)) (now (list .exit)) ⌝ }
+{
+    match read_plan(plan, table) {
+        PlanRead::Refused(number, carried) => Judgement::Refused(number, carried),
+        PlanRead::Read { nodes, actions: _ } => judge(table, nodes, counts, list),
+    }
+}
