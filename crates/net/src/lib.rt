@@ -16,6 +16,7 @@ mod rows;
 pub mod tokens;
 
 pub use chains::index_by_first;
+pub use chains::no_heads;
 pub use rows::number;
 
 // No count is over its limit. Only behind this test may counts be multiplied: a lent count can be any number.

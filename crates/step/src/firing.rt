@@ -122,7 +122,7 @@ pub fn index_and_fire(
     requires { ⌜ (length (now firsts) ≡ length (now seconds)) × (length (now firsts) ≤ 256) × Bytes (length (now firsts)) (now firsts) ⌝ }
     ensures { λ r. ⌜ Moves r (now (marking .entry)) (now (marking .exit)) (fire-items (transitions-within (now (rows .entry)) (now (arcs .entry)) transitions) (now (marking .entry)) (paired (now (firsts .entry)) (now (seconds .entry)))) ⌝ }
 {
-    let mut head = net::chains::no_heads();
+    let mut head = net::no_heads();
     let mut next = no_nexts();
     net::index_by_first(rows, transitions, &mut head, &mut next);
     let mut ts = form::no_numbers();
