@@ -14,10 +14,10 @@ use super::LIST;
 use super::Listed;
 use super::MOST;
 use super::parting;
-use plan::tags::BYTE;
 use plan::exclusive::number_at;
 use plan::exclusive::row_number;
 use plan::exclusive::wide;
+use plan::tags::BYTE;
 
 // A number is stored at a place; past the end nothing is.
 pub fn put_number(s: &mut [u16], i: usize, x: u16)
