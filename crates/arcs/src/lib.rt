@@ -17,7 +17,7 @@ ghost use lib.ListN.{length, replicate};
 ghost use Rattle.algebra.specs.Expr.{Expr};
 ghost use Rattle.algebra.specs.Item.{one, two};
 ghost use Rattle.algebra.specs.Places.{places};
-ghost use Rattle.algebra.specs.Arcs.{numbers, by-item, consumes, produces};
+ghost use Rattle.algebra.specs.Arcs.{numbers, by-item};
 ghost use Rattle.net.specs.Tables.{item-of};
 ghost use Rattle.arcs.specs.Moves.{passes};
 ghost use Rattle.arcs.specs.Asked.{Of, Asked, Begins};
@@ -99,34 +99,4 @@ pub fn arcs_of_item(
         return arcs_of_action(rows, nodes, counts, first, side, out);
     }
     arcs_of_two(rows, nodes, counts, first, second, side, out)
-}
-
-// The places that a transition consumes from.
-pub fn inputs_of_item(
-    rows: &[u16; 8196],
-    nodes: usize,
-    counts: &[u16; 4098],
-    first: usize,
-    second: usize,
-    out: &mut [u16; 2048],
-) -> usize
-    requires { ⌜ Asked (now rows) nodes (now counts) (item-of first second) ⌝ }
-    ensures { λ r. ⌜ ((E : Expr) → Of (now (rows .entry)) nodes (now (counts .entry)) (item-of first second) E → Begins (now (out .exit)) r (numbers (by-item consumes (item-of first second)) 0 (places 0 E))) ⌝ }
-{
-    arcs_of_item(rows, nodes, counts, first, second, Side::Inputs, out)
-}
-
-// The places that it produces into.
-pub fn outputs_of_item(
-    rows: &[u16; 8196],
-    nodes: usize,
-    counts: &[u16; 4098],
-    first: usize,
-    second: usize,
-    out: &mut [u16; 2048],
-) -> usize
-    requires { ⌜ Asked (now rows) nodes (now counts) (item-of first second) ⌝ }
-    ensures { λ r. ⌜ ((E : Expr) → Of (now (rows .entry)) nodes (now (counts .entry)) (item-of first second) E → Begins (now (out .exit)) r (numbers (by-item produces (item-of first second)) 0 (places 0 E))) ⌝ }
-{
-    arcs_of_item(rows, nodes, counts, first, second, Side::Outputs, out)
 }
