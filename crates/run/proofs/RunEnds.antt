@@ -21,6 +21,13 @@ use Rattle.run.specs.declared.steps.Taken.{Taken}
 use Rattle.run.specs.declared.steps.Taken.the-variants as taken
 use Rattle.run.proofs.RunsOn.{run-on, run-refused}
 
+-- The code's answer where it is a step that fired.
+pub step-fired : (q : Taken) (m′ : List ℕ) (a : Answer StepTaken) → taken-says q m′ ≡ a → (bytes : ℕ) → q ≡ taken.Step bytes → step-of bytes m′ ≡ a
+step-fired q m′ a says bytes e = sym (ap (λ (x : Taken). taken-says x m′) e) ∙ says
+
+pub step-within : (left : ℕ) (q : Taken) (m m′ : List ℕ) → TakenFits left q m m′ → (bytes : ℕ) → q ≡ taken.Step bytes → (1 ≤ bytes) × (bytes ≤ left)
+step-within left q m m′ fits bytes e = subst (λ (x : Taken). TakenFits left x m m′) e fits
+
 -- A run in every net with these transitions ends as the run from another place of the record on.
 abbrev pub Same : List ℕ → List ℕ → ℕ → ℕ → List ℕ → Recorded → ℕ → List ℕ → Recorded → Type 0
 Same rows arcs transitions steps₀ m₀ R₀ steps m R = (N : Net) → N .transitions ≡ transitions-within rows arcs transitions → run N steps₀ m₀ R₀ ≡ run N steps m R
@@ -50,12 +57,6 @@ module _ (rows arcs : List ℕ) (transitions exits-from : ℕ) (steps₀ : ℕ) 
         let whole : run N steps₀ m₀ R₀ ≡ refuse n c steps m = same N g ∙ run-refused N (transitions-within rows arcs transitions) g bytes-of at steps m h n c no in
         (sym (ap (λ (r : Run). r .verdict) whole), stays ∙ sym (ap (λ (r : Run). r .marking) whole))
 
-    module _ (bytes : ℕ) (e : q ≡ taken.Step bytes) where
-      pub step-fired : step-of bytes m′ ≡ take-step (transitions-within rows arcs transitions) m at (drop at bytes-of)
-      step-fired = sym (ap (λ (a : Taken). taken-says a m′) e) ∙ says
-
-      pub step-within : (left : ℕ) → TakenFits left q m m′ → (1 ≤ bytes) × (bytes ≤ left)
-      step-within left fits = subst (λ (a : Taken). TakenFits left a m m′) e fits
-
-      pub goes-on : 1 ≤ bytes → Same rows arcs transitions steps₀ m₀ R₀ (steps + 1) m′ (read-steps (at + bytes) 0 (drop (at + bytes) bytes-of))
-      goes-on b N g = same N g ∙ run-on N (transitions-within rows arcs transitions) g bytes-of at steps m h bytes m′ b step-fired
+    pub goes-on : (bytes : ℕ) → q ≡ taken.Step bytes → 1 ≤ bytes → Same rows arcs transitions steps₀ m₀ R₀ (steps + 1) m′ (read-steps (at + bytes) 0 (drop (at + bytes) bytes-of))
+    goes-on bytes e b N g =
+        same N g ∙ run-on N (transitions-within rows arcs transitions) g bytes-of at steps m h bytes m′ b (step-fired q m′ _ says bytes e)
