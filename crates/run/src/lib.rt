@@ -13,9 +13,9 @@ ghost use Rattle.run.specs.Run.{run};
 ghost use Rattle.run.specs.Says.{ran-says};
 use steps::Place;
 
-pub mod exits;
-pub mod reader;
-pub mod steps;
+mod exits;
+mod reader;
+mod steps;
 
 // How the steps of a record end: all of them fired, with all exits marked or not; or the refusal, what it carries and the accepted steps.
 pub enum Ran {

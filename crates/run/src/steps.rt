@@ -133,7 +133,17 @@ pub fn run_steps(
     while place.at < record.len() {
         let at = place.at;
         match take_step(
-            rows, arcs, transitions, head, next, record, at, firsts, seconds, ts, marking,
+            rows,
+            arcs,
+            transitions,
+            head,
+            next,
+            record,
+            at,
+            firsts,
+            seconds,
+            ts,
+            marking,
         ) {
             Taken::Refused(number, carried) => {
                 return Ran::Refused(number, carried, place.steps);

@@ -10,6 +10,7 @@ use lib.Dec.{leb}
 use Rattle.field.specs.Lists.{all}
 use Rattle.step.specs.Form.{read-steps}
 use Rattle.step.specs.Naming.{transitions-within, InOrder}
+use Rattle.run.specs.Steps.{take-step}
 use Rattle.run.proofs.StepsTaken.{marking-after}
 use Rattle.run.proofs.RunEnds.{Same, ends-finished, ends-unfinished, ends-refused, step-fired, step-within, goes-on}
 use Rattle.run.proofs.steps.run_steps.Statement.{statement}
@@ -42,7 +43,7 @@ fits : (c : Fired) → let l = c .before .before .before .before .before .before
 fits c =
     let l = c .before .before .before .before .before .before .before .before .before .before .before .before .loop in let q = c .before .before .before .before .before .take-step in
     subst (λ (n : ℕ). (1 ≤ bytes c) × (bytes c ≤ n)) (length-drop (l .place .at) (c .before .before .before .before .before .before .before .before .before .before .before .before .before .before .before .before .before .args .«record» .now))
-    (step-within _ (q .result) (l .marking) (q .last .1 .1 .1 .1 .1 .1 .1 .1 .1 .1 .0) (q .ensures .1) (bytes c) (c .before .bytes .given .1))
+    (step-within (length (drop (l .place .at) (c .before .before .before .before .before .before .before .before .before .before .before .before .before .before .before .before .before .args .«record» .now))) (q .result) (l .marking) (q .last .1 .1 .1 .1 .1 .1 .1 .1 .1 .1 .0) (q .ensures .1) (bytes c) (c .before .bytes .given .1))
 
 loop-holds : tie.Need-loop-holds Inv-loop μ-loop
 loop-holds c = let p = c .before .before .before .before .pre in (refl, p .1 .0, p .1 .1 .1 .1, p .1 .1 .1 .2, λ N g. refl)
@@ -66,7 +67,7 @@ returns c =
     let l = c .before .before .before .before .before .before .before .before .before .before .before .before .loop in
     let q = c .before .before .before .before .before .take-step in
     ends-refused (a .rows .now) (a .arcs .now) (a .transitions) (a .exits-from) (a .from .steps) (a .marking .now) (read-steps (a .from .at) 0 (drop (a .from .at) (a .«record» .now))) (a .«record» .now) (l .place .at) (l .place .steps) (l .marking) (l .inv .4)
-    (c .before .before .before .before .before .before .before .before .before .before .if1 .taken) (q .result) (q .last .1 .1 .1 .1 .1 .1 .1 .1 .1 .1 .0) (q .ensures .0) _ _ _ (q .ensures .1) (c .before .number .given .1)
+    (c .before .before .before .before .before .before .before .before .before .before .if1 .taken) (q .result) (q .last .1 .1 .1 .1 .1 .1 .1 .1 .1 .1 .0) (q .ensures .0) (length (drop (l .place .at) (a .«record» .now))) _ _ (q .ensures .1) (c .before .number .given .1)
 
 enum-known-bytes : tie.Need-enum-known-bytes Inv-loop μ-loop
 enum-known-bytes c = search needs
@@ -87,13 +88,13 @@ loop-again c =
     let q = c .before .before .before .before .before .before .take-step in
     let k = fits (c .before) in
     let after = marking-after (transitions-within (a .rows .now) (a .arcs .now) (a .transitions)) (l .marking) (drop (l .place .at) (a .«record» .now)) (l .place .at) (bytes (c .before)) (q .last .1 .1 .1 .1 .1 .1 .1 .1 .1 .1 .0)
-    (step-fired (q .result) _ _ (q .ensures .0) (bytes (c .before)) (c .before .before .bytes .given .1)) in (
+    (step-fired (q .result) (q .last .1 .1 .1 .1 .1 .1 .1 .1 .1 .1 .0) (take-step (transitions-within (a .rows .now) (a .arcs .now) (a .transitions)) (l .marking) (l .place .at) (drop (l .place .at) (a .«record» .now))) (q .ensures .0) (bytes (c .before)) (c .before .before .bytes .given .1)) in (
       after .0 ∙ l .inv .0,
       after .1,
       omega arith,
       omega (arith, c .before .before .before .before .before .before .before .before .before .before .before .if1 .taken),
       goes-on (a .rows .now) (a .arcs .now) (a .transitions) (a .exits-from) (a .from .steps) (a .marking .now) (read-steps (a .from .at) 0 (drop (a .from .at) (a .«record» .now))) (a .«record» .now) (l .place .at) (l .place .steps) (l .marking) (l .inv .4)
-          (c .before .before .before .before .before .before .before .before .before .before .before .if1 .taken) (q .result) _ (q .ensures .0) (bytes (c .before)) (c .before .before .bytes .given .1) (k .0),
+          (c .before .before .before .before .before .before .before .before .before .before .before .if1 .taken) (q .result) (q .last .1 .1 .1 .1 .1 .1 .1 .1 .1 .1 .0) (q .ensures .0) (bytes (c .before)) (c .before .before .bytes .given .1) (k .0),
     )
 
 exits-marked-requires : tie.Need-exits-marked-requires Inv-loop μ-loop
