@@ -1,6 +1,6 @@
 -- The contract of `run_record` determines its answer and the marking that it leaves: two results that it allows are equal.
 -- The rows and arcs are a net's, with any number of places before the exits; the contract equates both results with that net's run.
-use Prim.Native.Nat.{ℕ, _+_}
+use Prim.Native.Nat.{ℕ}
 use mathlib.Core.Path.{_≡_, refl, sym, _∙_}
 use mathlib.Core.List.{List}
 use native.Mathlib.Nat.{add-zero}
@@ -8,7 +8,6 @@ use native.Mathlib.Omega.{arith}
 use Rattle.algebra.specs.Net.{Net}
 use Rattle.step.specs.Form.{read-steps}
 use Rattle.step.specs.Naming.{transitions-within}
-use Rattle.run.specs.Run.{Verdict, finished, unfinished, refusal}
 use Rattle.run.specs.Says.{ran-says, Ends}
 use Rattle.run.specs.declared.Ran.{Ran}
 use Rattle.run.specs.declared.Ran.the-variants.{Finished, Unfinished, Refused}

@@ -6,16 +6,15 @@ use mathlib.Core.List.{List}
 use mathlib.Core.Bool.{Bool, true, false}
 use lib.ListN.{length, drop, drop-of-length-le}
 use lib.Dec.{leb}
-use Rattle.field.specs.Answer.{Answer, good, refused}
+use Rattle.field.specs.Answer.{Answer, refused}
 use Rattle.field.specs.Lists.{all}
 use Rattle.algebra.specs.Net.{Net}
 use Rattle.algebra.specs.Marking.{exits-marked}
 use Rattle.step.specs.Form.{Recorded, read-steps}
 use Rattle.step.specs.Naming.{transitions-within}
-use Rattle.run.specs.Run.{Verdict, finished, unfinished, refusal, Run, refuse, run}
+use Rattle.run.specs.Run.{Run, refuse, run}
 use Rattle.run.specs.Steps.{StepTaken, step-of, take-step}
-use Rattle.run.specs.Says.{ran-says, taken-says, TakenFits, Ends}
-use Rattle.run.specs.declared.Ran.{Ran}
+use Rattle.run.specs.Says.{taken-says, TakenFits, Ends}
 use Rattle.run.specs.declared.Ran.the-variants.{Finished, Unfinished, Refused}
 use Rattle.run.specs.declared.steps.Taken.{Taken}
 use Rattle.run.specs.declared.steps.Taken.the-variants as taken

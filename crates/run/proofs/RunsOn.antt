@@ -1,20 +1,20 @@
 -- A run of what is left of a record is one step and the run of what is left behind it, or the step's refusal.
 -- Passing over a step's bytes is dropping them, and a run is defined by its first step.
 use Prim.Native.Nat.{ℕ, zero, suc, _+_, _-_, _≤_, _<_}
-use mathlib.Core.Path.{_≡_, refl, sym, ap, subst, _∙_}
+use mathlib.Core.Path.{_≡_, refl, sym, ap, _∙_}
 use mathlib.Core.List.{List, [], _∷_}
 use mathlib.Core.Logic.{_⊎_, inl, inr}
 use native.Mathlib.Omega.{arith}
 use native.Mathlib.Nat.{add-zero}
 use native.Mathlib.Numerals.{add-one}
-use lib.ListN.{length, getD, drop}
+use lib.ListN.{length, drop}
 use lib.Seq.{drop-drop, drop-cons}
-use Rattle.field.specs.Answer.{Answer, good, refused, _>>=_, _>>_}
+use Rattle.field.specs.Answer.{Answer, good, refused, _>>=_}
 use Rattle.field.proofs.Answers.{bind-good, bind-refused, good-same, good-not-refused}
 use Rattle.algebra.specs.Net.{Net, Transition}
 use Rattle.algebra.specs.Firing.{fire-items}
-use Rattle.step.specs.Form.{Recorded, ends, step, no-step, StepRead, read-step, one-more, read-steps}
-use Rattle.run.specs.Run.{Run, refuse, go-on, run}
+use Rattle.step.specs.Form.{Recorded, step, StepRead, read-step, one-more, read-steps}
+use Rattle.run.specs.Run.{refuse, run}
 use Rattle.run.specs.Steps.{StepTaken, step-of, take-step}
 
 pub steps-passed : (at k : ℕ) (s : List ℕ) → read-steps at k s ≡ read-steps (at + k) 0 (drop k s)

@@ -6,16 +6,16 @@ use mathlib.Core.List.{List}
 use mathlib.Core.Bool.{true}
 use lib.ListN.{length}
 use lib.Dec.{leb}
-use Rattle.field.specs.Answer.{Answer, good, refused, _>>=_, _>>_}
+use Rattle.field.specs.Answer.{Answer, good, refused, _>>=_}
 use Rattle.field.specs.Lists.{all}
 use Rattle.field.proofs.Answers.{bind-good, good-same, good-not-refused}
 use Rattle.field.proofs.Tests.{T-true}
 use Rattle.algebra.specs.Net.{Transition}
 use Rattle.algebra.specs.Firing.{fire-items}
-use Rattle.algebra.proofs.Fires.{moved-length, Fires, fires-of}
+use Rattle.algebra.proofs.Fires.{moved-length, fires-of}
 use Rattle.step.specs.Form.{StepRead, read-step}
 use Rattle.step.specs.FormSays.{items-in, Bytes, step-says, StepFits}
-use Rattle.step.specs.Says.{told, kept, Moves}
+use Rattle.step.specs.Says.{fired-says, told, kept, Moves}
 use Rattle.step.specs.declared.Fired.{Fired}
 use Rattle.step.specs.declared.Fired.the-variants as fired
 use Rattle.step.specs.declared.form.StepAnswer.{StepAnswer}
@@ -44,7 +44,7 @@ module _ (net : List Transition) (m s : List ℕ) (at : ℕ) (q : StepAnswer) (f
     fires = sym (ap (λ (a : StepAnswer). rest (step-says at a firsts seconds)) e) ∙ read
 
     pub step-taken : r ≡ fired.Done → step-of bytes m′ ≡ take-step net m at s
-    step-taken f = go (fire-items net m (items-in items firsts seconds)) (sym (ap Rattle.step.specs.Says.fired-says f) ∙ moves .says) (moves .leaves) ∙ fires
+    step-taken f = go (fire-items net m (items-in items firsts seconds)) (sym (ap fired-says f) ∙ moves .says) (moves .leaves) ∙ fires
       where
         go : (a : Answer (List ℕ)) → good tt ≡ told a → m′ ≡ kept m a → step-of bytes m′ ≡ (a >>= (λ x. step-of bytes x))
         go (good x) g h = ap (λ (l : List ℕ). step-of bytes l) h
@@ -52,7 +52,7 @@ module _ (net : List Transition) (m s : List ℕ) (at : ℕ) (q : StepAnswer) (f
 
     pub step-not-taken : (n c : ℕ) → r ≡ fired.Refused n c → (refused n c ≡ take-step net m at s) × (m′ ≡ m)
     step-not-taken n c f =
-        let both = go (fire-items net m (items-in items firsts seconds)) (sym (ap Rattle.step.specs.Says.fired-says f) ∙ moves .says) (moves .leaves) in
+        let both = go (fire-items net m (items-in items firsts seconds)) (sym (ap fired-says f) ∙ moves .says) (moves .leaves) in
         (both .0 ∙ fires, both .1)
       where
         go : (a : Answer (List ℕ)) → refused n c ≡ told a → m′ ≡ kept m a → (refused n c ≡ (a >>= (λ x. step-of bytes x))) × (m′ ≡ m)

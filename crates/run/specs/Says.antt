@@ -2,7 +2,7 @@
 use Prim.Native.Nat.{ℕ, _+_, _≤_}
 use mathlib.Core.Path.{_≡_}
 use mathlib.Core.List.{List}
-use Rattle.field.specs.Answer.{Answer, good, refused}
+use Rattle.field.specs.Answer.{Answer, refused}
 use Rattle.algebra.specs.Net.{Net}
 use Rattle.step.specs.Form.{Recorded}
 use Rattle.step.specs.Naming.{transitions-within}

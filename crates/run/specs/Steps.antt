@@ -1,7 +1,7 @@
 -- One step of a record, its form and then its firing, as the code takes it: "each step in turn; form is judged as a step is reached".
 use Prim.Native.Nat.{ℕ}
 use mathlib.Core.List.{List}
-use Rattle.field.specs.Answer.{Answer, good, refused, _>>=_, _>>_}
+use Rattle.field.specs.Answer.{Answer, good, _>>=_, _>>_}
 use Rattle.algebra.specs.Net.{Transition}
 use Rattle.algebra.specs.Firing.{fire-items}
 use Rattle.step.specs.Form.{read-step}

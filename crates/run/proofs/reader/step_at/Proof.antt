@@ -1,6 +1,6 @@
 -- `step_at`: what is left of the record, lent as a part, is the record without the bytes before the offset.
 use Prim.Native.Nat.{ℕ}
-use mathlib.Core.Path.{_≡_, ap, subst, _∙_}
+use mathlib.Core.Path.{ap, subst, _∙_}
 use mathlib.Core.List.{List}
 use borrow.Author.Needs.{needs}
 use lib.ListN.{length}
@@ -9,9 +9,6 @@ use Rattle.step.specs.FormSays.{StepFits}
 use Rattle.step.proofs.ItemLists.{rest-part}
 use Rattle.run.proofs.reader.step_at.Statement.{statement}
 use Rattle.run.proofs.reader.step_at.Tie as tie
-use Rattle.run.proofs.reader.step_at.Reads as reads
-use Rattle.run.proofs.reader.step_at.Lts as lts
-use Rattle.step.proofs.form.read_step.Reads as read-step-reads
 
 pub step-at-spec : {M : Type 1} → statement M
 step-at-spec =

@@ -1,5 +1,5 @@
 -- `fire_front`: the fronts of the lists are as long as there are items, and their first actions are bytes.
-use mathlib.Core.Path.{_≡_, sym, _∙_}
+use mathlib.Core.Path.{sym, _∙_}
 use borrow.Author.Needs.{needs}
 use lib.Seq.{length-take-le}
 use Rattle.step.proofs.StepForms.{bytes-part}

@@ -1,7 +1,8 @@
 -- `run_steps`: the whole run ends as the run from the place reached on does. Each turn and each answer is a law of `RunEnds`.
 -- Every step takes bytes, so the number of steps stays at most the offset, and what is left of the record falls.
-use Prim.Native.Nat.{ℕ, _+_, _≤_, _-_}
+use Prim.Native.Nat.{ℕ, _+_, _-_, _≤_, _<_}
 use mathlib.Core.Path.{_≡_, refl, sym, subst, _∙_}
+use mathlib.Core.List.{List}
 use mathlib.Core.Bool.{true}
 use native.Mathlib.Omega.{arith}
 use borrow.Author.Needs.{needs}
@@ -39,84 +40,38 @@ Fired = lts.After-known-told2 claims reads.Pre reads.Post Inv-loop μ-loop
 abbrev bytes : Fired → ℕ
 bytes c = c .before .bytes .given .0 .0
 
-fits : (c : Fired) → let l = c .before .before .before .before .before .before .before .before .before .before .before .before .loop in (1 ≤ bytes c) × (bytes c ≤ length (c .before .before .before .before .before .before .before .before .before .before .before .before .before .before .before .before .before .args .«record» .now) - l .place .at)
+abbrev at : Fired → ℕ
+at c = c .before .before .before .before .before .before .before .before .before .before .before .before .loop .place .at
+
+abbrev bytes-of : Fired → List ℕ
+bytes-of c = c .before .before .before .before .before .before .before .before .before .before .before .before .before .before .before .before .before .args .«record» .now
+
+fits : (c : Fired) → (1 ≤ bytes c) × (bytes c ≤ length (bytes-of c) - at c)
 fits c =
-    let l = c .before .before .before .before .before .before .before .before .before .before .before .before .loop in let q = c .before .before .before .before .before .take-step in
-    subst (λ (n : ℕ). (1 ≤ bytes c) × (bytes c ≤ n)) (length-drop (l .place .at) (c .before .before .before .before .before .before .before .before .before .before .before .before .before .before .before .before .before .args .«record» .now))
-    (step-within (length (drop (l .place .at) (c .before .before .before .before .before .before .before .before .before .before .before .before .before .before .before .before .before .args .«record» .now))) (q .result) (l .marking) (q .last .1 .1 .1 .1 .1 .1 .1 .1 .1 .1 .0) (q .ensures .1) (bytes c) (c .before .bytes .given .1))
-
-loop-holds : tie.Need-loop-holds Inv-loop μ-loop
-loop-holds c = let p = c .before .before .before .before .pre in (refl, p .1 .0, p .1 .1 .1 .1, p .1 .1 .1 .2, λ N g. refl)
-
-take-step-requires : tie.Need-take-step-requires Inv-loop μ-loop
-take-step-requires c κs =
-    let p = c .before .before .before .before .before .before .before .before .before .before .before .pre in
-    let a = c .before .before .before .before .before .before .before .before .before .before .before .args in
-    let l = c .before .before .before .before .before .before .loop in
-    (subst (InOrder (a .rows .now) (a .arcs .now) (a .transitions)) (sym (l .inv .0)) (p .0), (l .inv .1, (p .1 .1 .0, l .inv .3)))
-
-enum-known-number : tie.Need-enum-known-number Inv-loop μ-loop
-enum-known-number c = search needs
-
-same-length : tie.Need-same-length Inv-loop μ-loop
-same-length c = search needs
-
-returns : tie.Need-returns Inv-loop μ-loop
-returns c =
-    let a = c .before .before .before .before .before .before .before .before .before .before .before .before .before .before .before .before .before .args in
-    let l = c .before .before .before .before .before .before .before .before .before .before .before .before .loop in
     let q = c .before .before .before .before .before .take-step in
-    ends-refused (a .rows .now) (a .arcs .now) (a .transitions) (a .exits-from) (a .from .steps) (a .marking .now) (read-steps (a .from .at) 0 (drop (a .from .at) (a .«record» .now))) (a .«record» .now) (l .place .at) (l .place .steps) (l .marking) (l .inv .4)
-    (c .before .before .before .before .before .before .before .before .before .before .if1 .taken) (q .result) (q .last .1 .1 .1 .1 .1 .1 .1 .1 .1 .1 .0) (q .ensures .0) (length (drop (l .place .at) (a .«record» .now))) _ _ (q .ensures .1) (c .before .number .given .1)
+    subst (λ (n : ℕ). (1 ≤ bytes c) × (bytes c ≤ n)) (length-drop (at c) (bytes-of c))
+    (step-within (length (drop (at c) (bytes-of c))) (q .result) (c .before .before .before .before .before .before .before .before .before .before .before .before .loop .marking) (q .last .1 .1 .1 .1 .1 .1 .1 .1 .1 .1 .0) (q .ensures .1) (bytes c) (c .before .bytes .given .1))
 
-enum-known-bytes : tie.Need-enum-known-bytes Inv-loop μ-loop
-enum-known-bytes c = search needs
+-- the next offset is a 64-bit number
+room : (c : Fired) → at c + bytes c < 18446744073709551616
+room c = omega (arith, fits c)
 
-add-t26 : tie.Need-add-t26 Inv-loop μ-loop
-add-t26 c = omega (arith, fits c)
-
-add-t27 : tie.Need-add-t27 Inv-loop μ-loop
-add-t27 c = let room = add-t26 (c .before) .fits in omega (arith, fits (c .before))
-
-loop-less : tie.Need-loop-less Inv-loop μ-loop
-loop-less c = omega (arith, fits (c .before))
-
-loop-again : tie.Need-loop-again Inv-loop μ-loop
-loop-again c =
+again : tie.Need-loop-again Inv-loop μ-loop
+again c =
     let a = c .before .before .before .before .before .before .before .before .before .before .before .before .before .before .before .before .before .before .args in
     let l = c .before .before .before .before .before .before .before .before .before .before .before .before .before .loop in
     let q = c .before .before .before .before .before .before .take-step in
+    let reached = c .before .before .before .before .before .before .before .before .before .before .before .if1 .taken in
     let k = fits (c .before) in
     let after = marking-after (transitions-within (a .rows .now) (a .arcs .now) (a .transitions)) (l .marking) (drop (l .place .at) (a .«record» .now)) (l .place .at) (bytes (c .before)) (q .last .1 .1 .1 .1 .1 .1 .1 .1 .1 .1 .0)
     (step-fired (q .result) (q .last .1 .1 .1 .1 .1 .1 .1 .1 .1 .1 .0) (take-step (transitions-within (a .rows .now) (a .arcs .now) (a .transitions)) (l .marking) (l .place .at) (drop (l .place .at) (a .«record» .now))) (q .ensures .0) (bytes (c .before)) (c .before .before .bytes .given .1)) in (
       after .0 ∙ l .inv .0,
       after .1,
       omega arith,
-      omega (arith, c .before .before .before .before .before .before .before .before .before .before .before .if1 .taken),
+      omega arith,
       goes-on (a .rows .now) (a .arcs .now) (a .transitions) (a .exits-from) (a .from .steps) (a .marking .now) (read-steps (a .from .at) 0 (drop (a .from .at) (a .«record» .now))) (a .«record» .now) (l .place .at) (l .place .steps) (l .marking) (l .inv .4)
-          (c .before .before .before .before .before .before .before .before .before .before .before .if1 .taken) (q .result) (q .last .1 .1 .1 .1 .1 .1 .1 .1 .1 .1 .0) (q .ensures .0) (bytes (c .before)) (c .before .before .bytes .given .1) (k .0),
+          reached (q .result) (q .last .1 .1 .1 .1 .1 .1 .1 .1 .1 .1 .0) (q .ensures .0) (bytes (c .before)) (c .before .before .bytes .given .1) (k .0),
     )
-
-exits-marked-requires : tie.Need-exits-marked-requires Inv-loop μ-loop
-exits-marked-requires c κs = search needs
-
-same-length-2 : tie.Need-same-length-2 Inv-loop μ-loop
-same-length-2 c = search needs
-
-returns-2 : tie.Need-returns-2 Inv-loop μ-loop
-returns-2 c =
-    let a = c .before .before .before .before .before .before .before .before .before .before .args in let l = c .before .before .before .before .before .loop in
-    ends-finished (a .rows .now) (a .arcs .now) (a .transitions) (a .exits-from) (a .from .steps) (a .marking .now) (read-steps (a .from .at) 0 (drop (a .from .at) (a .«record» .now))) (a .«record» .now) (l .place .at) (l .place .steps) (l .marking) (l .inv .4)
-    (c .before .before .before .if1 .left) (c .before .exits-marked .result) (c .before .exits-marked .ensures) (c .if2 .taken)
-
-same-length-3 : tie.Need-same-length-3 Inv-loop μ-loop
-same-length-3 c = search needs
-
-returns-3 : tie.Need-returns-3 Inv-loop μ-loop
-returns-3 c =
-    let a = c .before .before .before .before .before .before .before .before .before .before .args in let l = c .before .before .before .before .before .loop in
-    ends-unfinished (a .rows .now) (a .arcs .now) (a .transitions) (a .exits-from) (a .from .steps) (a .marking .now) (read-steps (a .from .at) 0 (drop (a .from .at) (a .«record» .now))) (a .«record» .now) (l .place .at) (l .place .steps) (l .marking) (l .inv .4)
-    (c .before .before .before .if1 .left) (c .before .exits-marked .result) (c .before .exits-marked .ensures) (c .if2 .left)
 
 pub run-steps-spec : {M : Type 1} → statement M
 run-steps-spec =
@@ -124,18 +79,29 @@ run-steps-spec =
     (tie.spec
     Inv-loop
     μ-loop
-    loop-holds
-    take-step-requires
-    enum-known-number
-    same-length
-    returns
-    enum-known-bytes
-    add-t26
-    add-t27
-    loop-less
-    loop-again
-    exits-marked-requires
-    same-length-2
-    returns-2
-    same-length-3
-    returns-3)
+    (λ c. let p = c .before .before .before .before .pre in (refl, p .1 .0, p .1 .1 .1 .1, p .1 .1 .1 .2, λ N g. refl))
+    (λ c κs.
+    let p = c .before .before .before .before .before .before .before .before .before .before .before .pre in let a = c .before .before .before .before .before .before .before .before .before .before .before .args in let l = c .before .before .before .before .before .before .loop in
+    (subst (InOrder (a .rows .now) (a .arcs .now) (a .transitions)) (sym (l .inv .0)) (p .0), (l .inv .1, (p .1 .1 .0, l .inv .3))))
+    (λ c. search needs)
+    (λ c. search needs)
+    (λ c.
+    let a = c .before .before .before .before .before .before .before .before .before .before .before .before .before .before .before .before .before .args in let l = c .before .before .before .before .before .before .before .before .before .before .before .before .loop in let q = c .before .before .before .before .before .take-step in
+    ends-refused (a .rows .now) (a .arcs .now) (a .transitions) (a .exits-from) (a .from .steps) (a .marking .now) (read-steps (a .from .at) 0 (drop (a .from .at) (a .«record» .now))) (a .«record» .now) (l .place .at) (l .place .steps) (l .marking) (l .inv .4)
+    (c .before .before .before .before .before .before .before .before .before .before .if1 .taken) (q .result) (q .last .1 .1 .1 .1 .1 .1 .1 .1 .1 .1 .0) (q .ensures .0) (length (drop (l .place .at) (a .«record» .now))) _ _ (q .ensures .1) (c .before .number .given .1))
+    (λ c. search needs)
+    (λ c. omega (arith, fits c))
+    (λ c. omega (arith, fits (c .before), room (c .before)))
+    (λ c. omega (arith, fits (c .before)))
+    again
+    (λ c κs. search needs)
+    (λ c. search needs)
+    (λ c.
+    let a = c .before .before .before .before .before .before .before .before .before .before .args in let l = c .before .before .before .before .before .loop in
+    ends-finished (a .rows .now) (a .arcs .now) (a .transitions) (a .exits-from) (a .from .steps) (a .marking .now) (read-steps (a .from .at) 0 (drop (a .from .at) (a .«record» .now))) (a .«record» .now) (l .place .at) (l .place .steps) (l .marking) (l .inv .4)
+    (c .before .before .before .if1 .left) (c .before .exits-marked .result) (c .before .exits-marked .ensures) (c .if2 .taken))
+    (λ c. search needs)
+    (λ c.
+    let a = c .before .before .before .before .before .before .before .before .before .before .args in let l = c .before .before .before .before .before .loop in
+    ends-unfinished (a .rows .now) (a .arcs .now) (a .transitions) (a .exits-from) (a .from .steps) (a .marking .now) (read-steps (a .from .at) 0 (drop (a .from .at) (a .«record» .now))) (a .«record» .now) (l .place .at) (l .place .steps) (l .marking) (l .inv .4)
+    (c .before .before .before .if1 .left) (c .before .exits-marked .result) (c .before .exits-marked .ensures) (c .if2 .left)))

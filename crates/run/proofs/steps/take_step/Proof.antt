@@ -1,6 +1,6 @@
 -- `take_step`: each answer, with the marking that it leaves, is a law of `StepsTaken` at the step that was read.
 use Prim.Native.Nat.{ℕ, _≤_}
-use mathlib.Core.Path.{_≡_, refl}
+use mathlib.Core.Path.{refl}
 use native.Mathlib.Omega.{arith}
 use borrow.Author.Needs.{needs}
 use lib.ListN.{length, drop}
