@@ -35,7 +35,8 @@ use Rattle.plan.proofs.Loops.{loops-exclusive}
 use Rattle.boxes.specs.Compile.{accept}
 use Rattle.boxes.proofs.TablesAreANet.{Accepted, accepted}
 use Rattle.step.specs.Form.{Recorded, ends, step, no-step, read-steps, read-record}
-use Rattle.replay.specs.Replay.{Verdict, finished, unfinished, refusal, Run, run, Replayed, start, replay}
+use Rattle.run.specs.Run.{Verdict, finished, unfinished, refusal, Run, run}
+use Rattle.replay.specs.Replay.{Replayed, start, replay}
 use Rattle.replay.specs.Recorded.{steps-of, Whole, After, now, later}
 use Rattle.replay.proofs.Runs.{AllFired, Stops, at-no-step, at-step, StoppedAt, RunSays, run-says, fired-accepted}
 
