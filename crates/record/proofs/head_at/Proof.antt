@@ -1,0 +1,16 @@
+use borrow.Author.Needs.{needs}
+use Rattle.record.proofs.head_at.Statement.{statement}
+use Rattle.record.proofs.head_at.Tie as tie
+use Rattle.record.proofs.head_at.Reads as reads
+use Rattle.record.proofs.head_at.Lts as lts
+use Rattle.step.proofs.form.step_head.Reads as step-head-reads
+
+pub head-at-spec : {M : Type 1} → statement M
+head-at-spec =
+    tie.close
+    (tie.spec
+    (λ c. search needs)
+    (λ c. search needs)
+    (λ c. search needs)
+    (λ c κs. search needs)
+    (λ c. (c .step-head .ensures .0 _, c .step-head .ensures .1)))
