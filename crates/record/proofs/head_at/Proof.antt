@@ -1,4 +1,5 @@
 use borrow.Author.Needs.{needs}
+use Rattle.step.proofs.ItemLists.{rest-part}
 use Rattle.record.proofs.head_at.Statement.{statement}
 use Rattle.record.proofs.head_at.Tie as tie
 use Rattle.record.proofs.head_at.Reads as reads
@@ -13,4 +14,4 @@ head-at-spec =
     (λ c. search needs)
     (λ c. search needs)
     (λ c κs. search needs)
-    (λ c. (c .step-head .ensures .0 _, c .step-head .ensures .1)))
+    (λ c. (rw rest-part at (c .step-head .ensures .0 (c .before .before .before .args .at)), rw rest-part at (c .step-head .ensures .1))))
