@@ -1,1 +1,2 @@
+pub mod HeadSaid
 pub mod TwoClauses
