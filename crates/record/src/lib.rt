@@ -2,6 +2,7 @@
 // reader take it apart or make it anew; the work is `head_at`'s, on the bytes and the place. Other callers use `head_of` and `step_at`.
 use step::form::HeadAnswer;
 use step::form::ItemsAnswer;
+use step::form::MOST_ITEMS;
 use step::form::StepAnswer;
 use step::form::read_items;
 use step::form::step_head;
@@ -66,8 +67,8 @@ pub fn head_of(record: &[u8], at: usize) -> HeadAnswer
 pub fn step_at(
     record: &[u8],
     at: usize,
-    firsts: &mut [u16; 256],
-    seconds: &mut [u16; 256],
+    firsts: &mut [u16; MOST_ITEMS],
+    seconds: &mut [u16; MOST_ITEMS],
 ) -> StepAnswer
     requires { ⌜ at ≤ length (now «record») ⌝ }
     ensures says { λ r. ⌜ step-says at r (now (firsts .exit)) (now (seconds .exit)) ≡ read-step at (drop at (now («record» .entry))) ⌝ }

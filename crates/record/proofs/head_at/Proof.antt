@@ -1,10 +1,9 @@
+-- `record::head_at`: the header at the front of what stands behind the offset.
+-- What is behind the offset is lent whole, so `step_head`'s contract at it is this one.
 use borrow.Author.Needs.{needs}
 use Rattle.step.proofs.ItemLists.{rest-part}
 use Rattle.record.proofs.head_at.Statement.{statement}
 use Rattle.record.proofs.head_at.Tie as tie
-use Rattle.record.proofs.head_at.Reads as reads
-use Rattle.record.proofs.head_at.Lts as lts
-use Rattle.step.proofs.form.step_head.Reads as step-head-reads
 
 pub head-at-spec : {M : Type 1} → statement M
 head-at-spec =

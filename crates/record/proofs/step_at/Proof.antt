@@ -2,7 +2,6 @@
 -- The parameters are plain, so that the borrow checker walks the code; of the reader behind `head_of` only the contract is seen.
 use native.Mathlib.Omega.{arith}
 use Prim.Native.Nat.{ℕ, _+_, _≤_}
-use mathlib.Core.Path.{_≡_}
 use mathlib.Core.List.{List}
 use borrow.Author.Needs.{needs}
 use lib.ListN.{length, drop, length-drop}
@@ -52,19 +51,17 @@ step-at-spec =
     (λ c. omega (arith, inside (c .before .before .before .before .before .before .before)))
     (λ c. (step-refused (c .before .before .before .before .before .args .at) (drop (c .before .before .before .before .before .args .at) (c .before .before .before .before .before .args .«record» .now)) (c .before .before .before .head-of .result) (c .before .before .before .head-of .ensures .0) _ (c .before .n .given .1), tt))
     (λ c.
-      (let t = c .before .before .before .before .before .before .before in
-      let q = c .before .before .before .read-items in
-      (
-        step-items-refused (place t) (drop (place t) (bytes t)) (t .before .before .before .head-of .result) (t .before .before .before .head-of .ensures .0) (len t) (t .before .len .given .1)
-            (q .result) _ _ (items-there (place t) (bytes t) (len t) (q .result) _ _ (q .ensures .0 (place t))) _ (c .before .n2 .given .1),
-        tt,
-      )))
+    (let t = c .before .before .before .before .before .before .before in
+    let q = c .before .before .before .read-items in (
+      step-items-refused (place t) (drop (place t) (bytes t)) (t .before .before .before .head-of .result) (t .before .before .before .head-of .ensures .0) (len t) (t .before .len .given .1)
+          (q .result) _ _ (items-there (place t) (bytes t) (len t) (q .result) _ _ (q .ensures .0 (place t))) _ (c .before .n2 .given .1),
+      tt,
+    )))
     (λ c.
-      (let t = c .before .before .before .before .before .before .before in
-      let q = c .before .before .before .read-items in
-      let k = items-fit _ (q .result) (q .last .1 .0) (q .last .1 .1 .0) (q .ensures .1) (c .before .count .given .1) in
-      (
-        step-read (place t) (drop (place t) (bytes t)) (t .before .before .before .head-of .result) (t .before .before .before .head-of .ensures .0) (len t) (t .before .len .given .1)
-            (q .result) _ _ (items-there (place t) (bytes t) (len t) (q .result) _ _ (q .ensures .0 (place t))) _ (c .before .count .given .1),
-        (omega arith, omega (arith, inside t, length-drop (place t) (bytes t)), k .0, k .1, k .2, k .3),
-      ))))
+    (let t = c .before .before .before .before .before .before .before in
+    let q = c .before .before .before .read-items in
+    let k = items-fit _ (q .result) (q .last .1 .0) (q .last .1 .1 .0) (q .ensures .1) (c .before .count .given .1) in (
+      step-read (place t) (drop (place t) (bytes t)) (t .before .before .before .head-of .result) (t .before .before .before .head-of .ensures .0) (len t) (t .before .len .given .1)
+          (q .result) _ _ (items-there (place t) (bytes t) (len t) (q .result) _ _ (q .ensures .0 (place t))) _ (c .before .count .given .1),
+      (omega arith, omega (arith, inside t, length-drop (place t) (bytes t)), k .0, k .1, k .2, k .3),
+    ))))
