@@ -34,7 +34,7 @@ pub fn new<'a>(bytes: &'a [u8]) -> RecordReader<'a>
     RecordReader { bytes, at: 0 }
 }
 
-// The reader behind so many bytes more.
+// The reader so many bytes further on.
 pub fn past<'a>(r: RecordReader<'a>, bytes: usize) -> RecordReader<'a>
     requires { ⌜ r .at + bytes ≤ length (now (r .bytes)) ⌝ }
     ensures { λ q. ⌜ (q .bytes ≡ r .entry .bytes) × (q .at ≡ r .entry .at + bytes) ⌝ }

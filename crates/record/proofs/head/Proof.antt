@@ -76,7 +76,7 @@ module _ {M : Type 1} (𝓤 : URA M) (H : Heap 𝓤) (A : Atoms 𝓤) (W : Given
   abbrev mach : Val
   mach = T′.lowered d
 
-  -- the machine value of src
+  -- the machine value of the slice
   abbrev v : Val
   v = sliceVal (d .bytes .ptr) (length (d .bytes .now))
 
@@ -112,11 +112,11 @@ module _ {M : Type 1} (𝓤 : URA M) (H : Heap 𝓤) (A : Atoms 𝓤) (W : Given
       qed W ((‵ (flft κ q) ⊛ ‵ ftrue) ∷ ‵ (owns (B (κ, tt) ∷ []) (d, tt) (mach ∷ [], tt)) ∷ []) ∵
       move ! (1 ∷ []) $ fsplit ! $ move ! (1 ∷ []) $ drop ! $ use1 W (‵ Own ⊛ ‵ Own) (LL.copy D (T′.the-copy (namedLft 1 0 tt (κ, tt))) 𝓤 H A W .twice d (mach ∷ [])) $ split ! $
       use1 W (given (mach ∷ [] ≡ mach ∷ []) (‵ (all-own (D .parts) L vd))) (own-open 𝓤 H A W D L vd mach) $ learn ! (λ _. use1 W (‵ (ownAt (D .parts) L 0 (d .bytes)) ⊛ ‵ (rest (D .parts) L 0 vd)) (own-out 𝓤 H A W (D .parts) L 0 vd) $ split ! $
-      -- [what src owns; what at owns; what the struct owns; the token]
+      -- [what the slice owns; what the place owns; what the struct owns; the token]
       move ! (1 ∷ []) $ drop ! $ nothing ! $ owned ! usize (Is usize) (uint-makes 𝓤 H A W w64) (d .at) _ (refl, fits) $ fjoin ! $ move ! (1 ∷ 0 ∷ []) $ fjoin ! $
       move ! (2 ∷ 0 ∷ []) $ use2 W (raw (HeadAt 𝓤 H A mem run .pre to)) asked $ frame ! $ done !)
 
-  -- of the callee's `ensured`, the clause alone: it has no `&mut`, so what is said of last values is dropped
+  -- of the callee's `ensured`, the two clauses alone: it has no `&mut`, so what is said of last values is dropped
   said : (r : HeadAnswer) → ent 𝓤 (ensured 𝓤 H A head-at.ended (head-at.clauses 𝓤 H A mem run) (κ, tt) (d .bytes, (d .at, tt)) tt r) (sep 𝓤 (fact 𝓤 (Says d r)) (fact 𝓤 (Fits d r)))
   said r = exE 𝓤 _ (λ ws. snd∗ 𝓤 (sem 𝓤 H A (lasts head-at.ended (κ, tt) (d .bytes, (d .at, tt)) ws)) (sep 𝓤 (fact 𝓤 (Says d r)) (fact 𝓤 (Fits d r))))
 
