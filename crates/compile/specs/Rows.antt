@@ -9,7 +9,7 @@ use Rattle.algebra.specs.Expr.{Expr}
 use Rattle.algebra.specs.Item.{Item}
 use Rattle.algebra.specs.Net.{Transition}
 use Rattle.algebra.specs.Places.{places}
-use Rattle.algebra.specs.Transitions.{Labelled}
+use Rattle.algebra.specs.Transitions.{Labelled, transitions}
 use Rattle.algebra.specs.Arcs.{transition-of}
 use Rattle.net.specs.Tables.{item-of, rows-from, arcs-from}
 use Rattle.plan.specs.Table.{Table}
@@ -53,6 +53,11 @@ pub record OfAll (table : List ℕ) (nodes : ℕ) (counts list : List ℕ) (many
   pub counted : take (3 * nodes) counts ≡ node-counts E
   pub few : length (places 0 E) ≤ place-limit
   pub acts : (t : ℕ) → t < many → Acts (item-at list t) E
+
+-- And the list is all of its transitions.
+pub record Whole (table : List ℕ) (nodes : ℕ) (counts list : List ℕ) (many : ℕ) (E : Expr) : Type 0 where
+  pub of : OfAll table nodes counts list many E
+  pub listed : listed-from list 0 many ≡ transitions 0 E
 
 -- There is such an expression.
 pub record AskedAll (table : List ℕ) (nodes : ℕ) (counts list : List ℕ) (many : ℕ) : Type 0 where

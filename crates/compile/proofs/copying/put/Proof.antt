@@ -43,8 +43,7 @@ loop-less c = omega arith
 loop-again : tie.Need-loop-again Inv-loop μ-loop
 loop-again c =
     let l = c .before .before .loop in
-    let a = c .before .before .before .args in
-    (
+    let a = c .before .before .before .args in (
       l .inv .0 ∙ next-put (a .list .now) (a .count) (c .before .before .before .pre .1) (a .start) (l .i) (l .out) (omega arith),
       omega arith,
       length-set (l .out) (a .start + l .i) (getD (a .list .now) (l .i) 0) ∙ l .inv .2,

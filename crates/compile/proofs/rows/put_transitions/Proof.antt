@@ -39,8 +39,7 @@ loop-less c = omega arith
 loop-again : tie.Need-loop-again Inv-loop μ-loop
 loop-again c =
     let l = c .before .before .before .before .before .before .before .before .loop in
-    let a = c .before .before .before .before .before .before .before .before .before .args in
-    (
+    let a = c .before .before .before .before .before .before .before .before .before .args in (
       turn (a .table .now) (a .nodes) (a .counts .now) (a .list .now) (a .many) (l .t) (l .at) _ _ _ _ (l .inv .0) (omega arith) (c .before .put-transition .ensures) (omega arith),
       omega arith,
       omega arith,
