@@ -14,7 +14,6 @@ ghost use Rattle.run.specs.Says.{ran-says};
 use steps::Place;
 
 mod exits;
-mod reader;
 mod steps;
 
 // How the steps of a record end: all of them fired, with all exits marked or not; or the refusal, what it carries and the accepted steps.

@@ -16,7 +16,7 @@ ghost use Rattle.run.specs.Steps.{take-step};
 ghost use Rattle.run.specs.Says.{taken-says, TakenFits, Ends};
 use crate::Ran;
 use crate::exits;
-use crate::reader;
+use record::step_at;
 use step::Fired;
 use step::firing;
 use step::form::StepAnswer;
@@ -86,7 +86,7 @@ fn take_step(
     ensures says { λ r. ⌜ taken-says r (now (marking .exit)) ≡ take-step (transitions-within (now (rows .entry)) (now (arcs .entry)) transitions) (now (marking .entry)) at (drop at (now («record» .entry))) ⌝ }
     ensures fits { λ r. ⌜ TakenFits (length (drop at (now («record» .entry)))) r (now (marking .entry)) (now (marking .exit)) ⌝ }
 {
-    match reader::step_at(record, at, firsts, seconds) {
+    match step_at(record, at, firsts, seconds) {
         StepAnswer::Refused(number) => Taken::Refused(number, at),
         StepAnswer::Step { items, bytes } => {
             match fire_front(

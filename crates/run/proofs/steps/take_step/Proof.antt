@@ -11,7 +11,7 @@ use Rattle.run.proofs.steps.take_step.Statement.{statement}
 use Rattle.run.proofs.steps.take_step.Tie as tie
 use Rattle.run.proofs.steps.take_step.Reads as reads
 use Rattle.run.proofs.steps.take_step.Lts as lts
-use Rattle.run.proofs.reader.step_at.Reads as step-at-reads
+use Rattle.record.proofs.step_at.Reads as step-at-reads
 use Rattle.run.proofs.steps.fire_front.Reads as fire-front-reads
 
 -- where a step was read
