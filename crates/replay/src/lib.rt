@@ -20,8 +20,8 @@ fn mark_entries(marking: &mut [u8], entries: usize)
     requires { ⌜ entries ≤ length (now marking) ⌝ }
     ensures { λ _. ⌜ now (marking .exit) ≡ replicate entries 1 ++ replicate (length (now (marking .entry)) - entries) 0 ⌝ }
 {
-    write_run(marking, 0, entries, 1);
     let others = marking.len() - entries;
+    write_run(marking, 0, entries, 1);
     write_run(marking, entries, others, 0);
 }
 

@@ -1,62 +1,44 @@
+-- `replay_net`: each answer, with the buffer that it leaves, is a law of `ReplayCall` at what the two tests have told.
+use Prim.Native.Nat.{_+_, _≤_, _<_}
+use native.Mathlib.Omega.{arith}
+use mathlib.Core.Path.{_≡_, sym, _∙_, subst}
 use borrow.Author.Needs.{needs}
+use borrow.Author.Tests.{not-true, not-false}
+use lib.ListN.{length}
+use lib.Seq.{length-take-le}
+use Rattle.field.specs.Limits.{record-limit}
+use Rattle.step.specs.Naming.{InOrder}
+use Rattle.replay.proofs.ReplayCall.{reaches, no-room, too-long, runs}
 use Rattle.replay.proofs.replay_net.Statement.{statement}
 use Rattle.replay.proofs.replay_net.Tie as tie
-use Rattle.replay.proofs.replay_net.Reads as reads
-use Rattle.replay.proofs.replay_net.Lts as lts
-use Rattle.net.proofs.tokens.has_room.Reads as has-room-reads
-use Rattle.replay.proofs.run_from_entries.Reads as run-from-entries-reads
-
--- src/lib.rt:61:9
-has-room-requires : tie.Need-has-room-requires
-has-room-requires c κs = search needs
-
--- src/lib.rt:62:9
-same-length : tie.Need-same-length
-same-length c = search needs
-
--- src/lib.rt:62:9
-returns : tie.Need-returns
-returns c = ?
-
--- src/lib.rt:65:9
-same-length-2 : tie.Need-same-length-2
-same-length-2 c = search needs
-
--- src/lib.rt:65:9
-returns-2 : tie.Need-returns-2
-returns-2 c = ?
-
--- src/lib.rt:74:9
-slice-relend-prefix-run-from-entries : tie.Need-slice-relend-prefix-run-from-entries
-slice-relend-prefix-run-from-entries c = ?
-
--- src/lib.rt:74:9
-slice-aggregate-run-from-entries : tie.Need-slice-aggregate-run-from-entries
-slice-aggregate-run-from-entries c = ?
-
--- src/lib.rt:67:5
-run-from-entries-requires : tie.Need-run-from-entries-requires
-run-from-entries-requires c κs = ?
-
--- src/lib.rt:47:1
-same-length-3 : tie.Need-same-length-3
-same-length-3 c = search needs
-
--- src/lib.rt:47:1
-returns-3 : tie.Need-returns-3
-returns-3 c = ?
 
 pub replay-net-spec : {M : Type 1} → statement M
 replay-net-spec =
     tie.close
     (tie.spec
-    has-room-requires
-    same-length
-    returns
-    same-length-2
-    returns-2
-    slice-relend-prefix-run-from-entries
-    slice-aggregate-run-from-entries
-    run-from-entries-requires
-    same-length-3
-    returns-3)
+    (λ c κs. search needs)
+    (λ c. search needs)
+    (λ c N h.
+    let a = c .before .before .before .before .before .args in
+    no-room N (a .places) (h .its-places) (a .«record» .now) (a .marking .now) (c .before .has-room .result) (c .before .has-room .ensures) (not-true (c .before .has-room .result) (c .if1 .taken)))
+    (λ c. search needs)
+    (λ c N h.
+    let a = c .before .before .before .before .before .before .args in
+    let long : record-limit < length (a .«record» .now) = omega arith in
+    too-long N (a .places) (h .its-places) (a .«record» .now) (a .marking .now) (c .before .before .has-room .result) (c .before .before .has-room .ensures) (not-false (c .before .before .has-room .result) (c .before .if1 .left)) long)
+    (λ c. let a = c .before .before .before .before .before .before .before .before .args in reaches (a .places) (a .marking .now) (c .before .before .before .before .has-room .result) (c .before .before .before .before .has-room .ensures) (not-false (c .before .before .before .before .has-room .result) (c .before .before .before .if1 .left)))
+    (λ c. let a = c .before .before .before .before .before .before .before .before .before .args in sym (length-take-le (a .places) (a .marking .now) (reaches (a .places) (a .marking .now) (c .before .before .before .before .before .has-room .result) (c .before .before .before .before .before .has-room .ensures) (not-false (c .before .before .before .before .before .has-room .result) (c .before .before .before .before .if1 .left)))))
+    (λ c κs.
+    let s = c .before .before .before .before .before .before .before .before .before in
+    let a = s .args in
+    let part = length-take-le (a .places) (a .marking .now) (reaches (a .places) (a .marking .now) (c .before .before .before .before .before .has-room .result) (c .before .before .before .before .before .has-room .ensures) (not-false (c .before .before .before .before .before .has-room .result) (c .before .before .before .before .if1 .left))) in
+    (subst (InOrder (a .rows .now) (a .arcs .now) (a .transitions)) (sym part) (s .pre .0), subst (λ n. a .entries + a .internals ≤ n) (sym part) (s .pre .1)))
+    (λ c. search needs)
+    (λ c N h.
+    let a = c .before .before .before .before .before .before .before .before .before .before .before .before .args in
+    let room = not-false (c .before .before .before .before .before .before .before .before .has-room .result) (c .before .before .before .before .before .before .before .if1 .left) in
+    let part = length-take-le (a .places) (a .marking .now) (reaches (a .places) (a .marking .now) (c .before .before .before .before .before .before .before .before .has-room .result) (c .before .before .before .before .before .before .before .before .has-room .ensures) room) in
+    let short : length (a .«record» .now) ≤ record-limit = omega arith in
+    let q = c .before .before .run-from-entries in
+    runs N (a .places) (h .its-places) (a .«record» .now) (a .marking .now) (c .before .before .before .before .before .before .before .before .has-room .result) (c .before .before .before .before .before .before .before .before .has-room .ensures) room short (q .result) (q .last .1 .1 .1 .1 .1 .1 .0)
+    (q .ensures N (record { its-transitions = h .its-transitions; its-places = h .its-places ∙ sym part; its-entries = h .its-entries; its-internals = h .its-internals }))))
