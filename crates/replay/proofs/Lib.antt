@@ -5,3 +5,5 @@ pub mod CallsOnANet
 pub mod EntryMarking
 pub mod WorkRoom
 pub mod ReplayCall
+pub mod Determined
+pub mod FormRefusals
