@@ -1,5 +1,6 @@
 pub mod KnownNets
 pub mod Runs
+pub mod Demand1
 pub mod Demand3
 pub mod CallsOnANet
 pub mod EntryMarking
