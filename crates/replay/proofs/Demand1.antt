@@ -70,7 +70,7 @@ module _ (kinds rows arcs : List ℕ) (places transitions arc-count : ℕ) where
   pub fire-answered : (marking step : List ℕ) → One (FireAllows marking step)
   fire-answered marking step = record {
     some = let a = go (fire (lent kinds rows arcs places transitions arc-count) marking step .answer) in
-    (record { answer = a .0; bytes = fire (lent kinds rows arcs places transitions arc-count) marking step .marking }, (a .1, refl));
+        (record { answer = a .0; bytes = fire (lent kinds rows arcs places transitions arc-count) marking step .marking }, (a .1, refl));
     only = λ a b e f. let p = fire-determined kinds rows arcs places transitions arc-count marking step (a .answer) (b .answer) (a .bytes) (b .bytes) (e .0) (e .1) (f .0) (f .1) in λ i. record { answer = p .0 i; bytes = p .1 i };
   }
     where
@@ -86,7 +86,7 @@ module _ (kinds rows arcs : List ℕ) (places transitions arc-count : ℕ) where
   pub enabled-answered : (marking out : List ℕ) → One (EnabledAllows marking out)
   enabled-answered marking out = record {
     some = let a = go (enabled (lent kinds rows arcs places transitions arc-count) marking out .answer) in
-    (record { answer = a .0; bytes = enabled (lent kinds rows arcs places transitions arc-count) marking out .list }, (a .1, refl));
+        (record { answer = a .0; bytes = enabled (lent kinds rows arcs places transitions arc-count) marking out .list }, (a .1, refl));
     only = λ a b e f. let p = enabled-determined kinds rows arcs places transitions arc-count marking out (a .answer) (b .answer) (a .bytes) (b .bytes) (e .0) (e .1) (f .0) (f .1) in λ i. record { answer = p .0 i; bytes = p .1 i };
   }
     where

@@ -161,13 +161,16 @@ pub each-point-before : (E : Expr) (As Bs : List (List Item)) (m : List ℕ) →
     → (l : List ℕ) × (fire-in-order (net-of E .transitions) (entry-marking (net-of E)) As ≡ good l) × Point E As l
 each-point-before E As Bs m p =
     let f = fires-iff-derived E (p .exclusive) (p .scopes) (As ++ Bs) .1 (p .states .some) in
-    let b = fires-before E As Bs (entry-marking (net-of E)) (f .0) (f .1) in
-    (b .0, b .1, record {
-      exclusive = p .exclusive;
-      scopes = p .scopes;
-      states = one-state E (p .exclusive) (p .scopes) As (b .0) (b .1);
-      marking = safe-and-clean E (p .exclusive) (p .scopes) As (b .0) (b .1);
-    })
+    let b = fires-before E As Bs (entry-marking (net-of E)) (f .0) (f .1) in (
+      b .0,
+      b .1,
+      record {
+        exclusive = p .exclusive;
+        scopes = p .scopes;
+        states = one-state E (p .exclusive) (p .scopes) As (b .0) (b .1);
+        marking = safe-and-clean E (p .exclusive) (p .scopes) As (b .0) (b .1);
+      },
+    )
 
 -- The same of the call `replay`: any answer r and any buffer at exit that its contract allows.
 module _ (plan record-bytes buffer : List ℕ) (E : Expr) (yes-plan : accept plan ≡ good E) (short : length record-bytes ≤ record-limit) (room : place-count (net-of E) ≤ length buffer)

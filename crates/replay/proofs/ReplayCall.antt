@@ -60,7 +60,7 @@ module _ (N : Net) (places : ℕ) (its-places : place-count N ≡ places) (run-r
   -- 35
   pub no-room : room ≡ false → ReplayIs N run-record buffer (Refused no-marking 0 0) buffer
   no-room h = started-as N run-record buffer (refused no-marking 0) (Refused no-marking 0 0) buffer
-    (start-tested ∙ ap (λ b. check b no-marking 0 >> (read-record run-record >>= λ R. good (record { net = N; recorded = R }))) h) refl refl
+      (start-tested ∙ ap (λ b. check b no-marking 0 >> (read-record run-record >>= λ R. good (record { net = N; recorded = R }))) h) refl refl
 
   start-passed : room ≡ true → start-on N run-record buffer ≡ (read-record run-record >>= λ R. good (record { net = N; recorded = R }))
   start-passed h = start-tested ∙ ap (λ b. check b no-marking 0 >> (read-record run-record >>= λ R. good (record { net = N; recorded = R }))) h
@@ -69,14 +69,14 @@ module _ (N : Net) (places : ℕ) (its-places : place-count N ≡ places) (run-r
   pub too-long : room ≡ true → record-limit < length run-record → ReplayIs N run-record buffer (Refused record-too-long 0 0) buffer
   unfolding read-record
   too-long h l = started-as N run-record buffer (refused record-too-long 0) (Refused record-too-long 0 0) buffer
-    (start-passed h ∙ ap (λ b. check b record-too-long 0 >> good (read-steps 0 0 run-record) >>= λ R. good (record { net = N; recorded = R })) (lt-leb (length run-record) record-limit l)) refl refl
+      (start-passed h ∙ ap (λ b. check b record-too-long 0 >> good (read-steps 0 0 run-record) >>= λ R. good (record { net = N; recorded = R })) (lt-leb (length run-record) record-limit l)) refl refl
 
   -- the run
   pub runs : room ≡ true → length run-record ≤ record-limit → (r : Ran) (exit : List ℕ) → RunIs N run-record r exit → ReplayIs N run-record buffer r (exit ++ drop places buffer)
   unfolding read-record
   runs h l r exit i = started-as N run-record buffer (good (record { net = N; recorded = read-steps 0 0 run-record })) r (exit ++ drop places buffer)
-    (start-passed h ∙ ap (λ b. check b record-too-long 0 >> good (read-steps 0 0 run-record) >>= λ R. good (record { net = N; recorded = R })) (le-leb (length run-record) record-limit l))
-    (i .verdict) (ap₂ (λ m n. m ++ drop n buffer) (i .marking) (sym its-places))
+      (start-passed h ∙ ap (λ b. check b record-too-long 0 >> good (read-steps 0 0 run-record) >>= λ R. good (record { net = N; recorded = R })) (le-leb (length run-record) record-limit l))
+      (i .verdict) (ap₂ (λ m n. m ++ drop n buffer) (i .marking) (sym its-places))
 
 -- A refused plan.
 pub plan-refused : (plan run-record buffer : List ℕ) (n c : ℕ) (r : Compiling) → compiling-says r ≡ plan-counts plan → r ≡ compiling.Refused n c → Leaves plan run-record buffer (Refused n c 0) buffer

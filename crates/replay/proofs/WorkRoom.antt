@@ -52,14 +52,14 @@ module _ (plan : List ℕ) (places transitions count entries internals : ℕ) (r
 
   pub work-in-order : InOrder rows arcs transitions places
   work-in-order = subst (λ l. InOrder l arcs transitions places) rows-front (subst (λ l. InOrder (rows-of N ++ more-rows) l transitions places) arcs-front
-    (subst (λ n. InOrder (rows-of N ++ more-rows) (arcs-of N ++ more-arcs) n places) transitions-are (subst (λ n. InOrder (rows-of N ++ more-rows) (arcs-of N ++ more-arcs) (length (N .transitions)) n) places-are
-    (net-in-order (kinds-of N ++ []) (rows-of N ++ more-rows) (arcs-of N ++ more-arcs) (place-count N) (length (N .transitions)) (length (arcs-of N)) work-is-a-net))))
+      (subst (λ n. InOrder (rows-of N ++ more-rows) (arcs-of N ++ more-arcs) n places) transitions-are (subst (λ n. InOrder (rows-of N ++ more-rows) (arcs-of N ++ more-arcs) (length (N .transitions)) n) places-are
+      (net-in-order (kinds-of N ++ []) (rows-of N ++ more-rows) (arcs-of N ++ more-arcs) (place-count N) (length (N .transitions)) (length (arcs-of N)) work-is-a-net))))
 
   pub work-holds : Holds rows arcs places transitions entries internals N
   unfolding counts-of tables-of
   work-holds = record {
     its-transitions = sym (lent-tables-are-the-net plan (w .expr) (w .accepts) [] more-rows more-arcs) ∙ transitions-lent (lent-tables N [] more-rows more-arcs)
-      ∙ (λ i. transitions-within (rows-front i) (arcs-front i) (transitions-are i));
+        ∙ (λ i. transitions-within (rows-front i) (arcs-front i) (transitions-are i));
     its-places = places-are;
     its-entries = ap (λ z. z .entries) (sym (w .counts));
     its-internals = ap (λ z. z .internals) (sym (w .counts));

@@ -40,7 +40,14 @@ fn run_from_entries(
     ensures { λ r. ⌜ ((N : Net) → Holds (now (rows .entry)) (now (arcs .entry)) (length (now (marking .entry))) transitions entries internals N → RunIs N (now («record» .entry)) r (now (marking .exit))) ⌝ }
 {
     mark_entries(marking, entries);
-    run_record(rows, arcs, transitions, entries + internals, record, marking)
+    run_record(
+        rows,
+        arcs,
+        transitions,
+        entries + internals,
+        record,
+        marking,
+    )
 }
 
 // "35 (short only), then 20, before anything is written", then the run. What lies behind the net's part is neither looked at nor written.

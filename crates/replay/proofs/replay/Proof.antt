@@ -48,8 +48,7 @@ replay-spec =
     (λ c. search needs)
     (λ c κs.
     let k = c .before .before .before .before in
-    let b = c .before .before .before .before .before .before .build in
-    (
+    let b = c .before .before .before .before .before .before .build in (
       work-in-order (c .before .before .before .before .before .before .before .before .before .before .before .before .before .before .args .plan .now) (places k) (transitions k) (count k) (entries k) (internals k) (b .last .1 .0) (b .last .1 .1 .0) (net-made k),
       work-exits (c .before .before .before .before .before .before .before .before .before .before .before .before .before .before .args .plan .now) (places k) (transitions k) (count k) (entries k) (internals k) (b .last .1 .0) (b .last .1 .1 .0) (net-made k),
     ))

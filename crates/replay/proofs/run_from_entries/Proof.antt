@@ -21,8 +21,7 @@ run-from-entries-spec =
     (λ c κs.
     let s = c .before .before .before .before .before .before .before .before .before in
     let m = c .before .before .before .mark-entries in
-    let same : length (m .last .0) ≡ length (s .args .marking .now) = ap length (m .ensures) ∙ entries-length (length (s .args .marking .now)) (s .args .entries) (omega arith) in
-    (
+    let same : length (m .last .0) ≡ length (s .args .marking .now) = ap length (m .ensures) ∙ entries-length (length (s .args .marking .now)) (s .args .entries) (omega arith) in (
       subst (InOrder (s .args .rows .now) (s .args .arcs .now) (s .args .transitions)) (sym same) (s .pre .0),
       (
         ap (all (λ x. leb x 1)) (m .ensures) ∙ entries-safe (s .args .entries) (length (s .args .marking .now) - s .args .entries),
