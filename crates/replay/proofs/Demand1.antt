@@ -2,11 +2,11 @@
 -- and no other. True because each contract equates both with a definition, every answer of a definition is said by one answer of the code, and by one only.
 -- None of these calls has a `requires`; that each one ends on every input and meets its contract is its own proof, in the folder of its name.
 use Prim.Native.Nat.{ℕ, _*_}
-use mathlib.Core.Path.{_≡_, refl, sym, _∙_, ap}
+use mathlib.Core.Path.{_≡_, refl, sym, _∙_}
 use mathlib.Core.Bool.{Bool}
 use mathlib.Core.List.{List, _++_}
 use lib.ListN.{drop}
-use Rattle.field.specs.Answer.{Answer, good, refused, _>>=_}
+use Rattle.field.specs.Answer.{Answer, good, refused}
 use Rattle.algebra.specs.Expr.{Expr}
 use Rattle.plan.specs.Reading.{read-plan}
 use Rattle.plan.specs.Nodes.{Sizes, node-count, node-table}

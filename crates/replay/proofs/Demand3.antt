@@ -2,7 +2,7 @@
 -- rules, worked on the expression with no net in sight, derive the recorded steps in that order from the started plan. Of a refused record it tells how
 -- many leading steps those rules derive, and the next one, as recorded, they do not. At each point so reached every place holds at most one token, and
 -- when all exit places hold one, no other place does." Said of the definition of replay, and then of every answer and buffer that the call's contract allows.
-use Prim.Native.Nat.{ℕ, zero, suc, _+_, _≤_}
+use Prim.Native.Nat.{ℕ, _+_, _≤_}
 use native.Mathlib.Omega.{arith}
 use native.Mathlib.Nat.{zero-add}
 use mathlib.Core.Path.{_≡_, refl, sym, _∙_, ap, subst}
@@ -10,10 +10,10 @@ use mathlib.Core.Logic.{_⊎_, inl, inr, _↔_}
 use mathlib.Core.Bool.{Bool, true, false, cond}
 use mathlib.Core.List.{List, [], _∷_, _++_}
 use lib.ListN.{length, drop}
-use lib.Dec.{T, leb, le→leb}
+use lib.Dec.{leb, le→leb}
 use Rattle.field.specs.Limits.{record-limit}
 use Rattle.field.specs.Refusals.{two-tokens, no-transition, input-empty, input-shared}
-use Rattle.field.specs.Answer.{Answer, good, refused, _>>=_}
+use Rattle.field.specs.Answer.{good, _>>=_}
 use Rattle.field.proofs.Tests.{T-true}
 use Rattle.field.proofs.Answers.{bind-good}
 use Rattle.algebra.specs.Expr.{Expr}
@@ -23,28 +23,28 @@ use Rattle.algebra.specs.Scopes.{ScopesNamed}
 use Rattle.algebra.specs.Dynamic.{Dynamic}
 use Rattle.algebra.specs.Steps.{Bag, Step}
 use Rattle.algebra.specs.Derived.{Derived}
-use Rattle.algebra.specs.Net.{Net, place-count}
+use Rattle.algebra.specs.Net.{place-count}
 use Rattle.algebra.specs.Arcs.{net-of}
 use Rattle.algebra.specs.Marking.{entry-marking, exits-marked}
 use Rattle.algebra.specs.Firing.{fire-items}
 use Rattle.algebra.specs.InOrder.{fire-in-order}
-use Rattle.algebra.proofs.Agreement.{OneState, one-state, NextRefused, next-refused, SafeAndClean, safe-and-clean, fires-iff-derived}
+use Rattle.algebra.proofs.Agreement.{OneState, one-state, next-refused, SafeAndClean, safe-and-clean, fires-iff-derived}
 use Rattle.plan.proofs.Exact.{read-within}
 use Rattle.plan.proofs.Within.{limits-within}
 use Rattle.plan.proofs.Scopes.{named-scopes}
 use Rattle.plan.proofs.Loops.{loops-exclusive}
 use Rattle.boxes.specs.Compile.{accept}
-use Rattle.boxes.proofs.TablesAreANet.{Accepted, accepted}
-use Rattle.step.specs.Form.{Recorded, ends, step, no-step, read-steps, read-record}
+use Rattle.boxes.proofs.TablesAreANet.{accepted}
+use Rattle.step.specs.Form.{Recorded, step, no-step, read-steps}
 use Rattle.run.specs.Run.{Verdict, finished, unfinished, refusal, Run, run}
 use Rattle.run.specs.Says.{ran-says}
 use Rattle.run.specs.declared.Ran.{Ran}
 use Rattle.run.specs.declared.Ran.the-variants.{Finished, Unfinished, Refused}
 use Rattle.run.proofs.Determined.{ran-once}
 use Rattle.replay.specs.Replay.{Replayed, start, replay}
-use Rattle.replay.specs.Recorded.{steps-of, Whole, After, now, later}
-use Rattle.replay.proofs.FormRefusals.{FormNumber, FormsIn, steps-form, after-form}
-use Rattle.replay.proofs.Runs.{AllFired, Stops, at-no-step, at-step, StoppedAt, RunSays, run-says, fired-accepted}
+use Rattle.replay.specs.Recorded.{steps-of, Whole, After}
+use Rattle.replay.proofs.FormRefusals.{FormsIn, steps-form, after-form}
+use Rattle.replay.proofs.Runs.{Stops, at-no-step, at-step, RunSays, run-says, fired-accepted}
 
 -- A point of a run: some steps in order from the started plan, and the marking that stands at the front of the buffer after them.
 pub record Point (E : Expr) (Ss : List (List Item)) (m : List ℕ) : Type 0 where

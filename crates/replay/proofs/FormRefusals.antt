@@ -10,7 +10,7 @@ use Rattle.field.specs.Refusals.{record-field-cut, wrong-tag, wrong-length, not
 use Rattle.field.specs.Answer.{Answer, good, refused, _>>=_, _>>_, check}
 use Rattle.field.specs.Field.{tag-of, length-of, body-of}
 use Rattle.algebra.specs.Item.{Item, first}
-use Rattle.step.specs.Form.{check-header, ItemTag, item-tag, action-count, item-of, ItemRead, read-item, read-items, StepRead, read-step, Recorded, ends, step, no-step, one-more, read-steps}
+use Rattle.step.specs.Form.{check-header, one-tag, two-tag, item-tag, action-count, item-of, read-item, read-items, StepRead, read-step, Recorded, ends, step, no-step, one-more, read-steps}
 use Rattle.replay.specs.Recorded.{After, now, later}
 
 abbrev pub FormNumber : ℕ → Type 0
@@ -49,7 +49,7 @@ tag-form : (at t : ℕ) → ByForm (item-tag at t)
 unfolding item-tag
 tag-form at t = go (eqb t 0x21) (eqb t 0x22)
   where
-    go : (a b : Bool) → ByForm (cond a (good Rattle.step.specs.Form.one-tag) (cond b (good Rattle.step.specs.Form.two-tag) (refused wrong-tag at)))
+    go : (a b : Bool) → ByForm (cond a (good one-tag) (cond b (good two-tag) (refused wrong-tag at)))
     go true b = tt
     go false true = tt
     go false false = tag

@@ -1,11 +1,10 @@
 -- The replay call's answers with the buffer that they leave, from what the building of the net and the two tests have told.
 -- True by cases on the tests: a refusal before the first step leaves the buffer, and else its front is the run's marking.
 use Prim.Native.Nat.{ℕ, _≤_, _<_}
-use native.Mathlib.Omega.{arith}
 use mathlib.Core.Path.{_≡_, refl, sym, _∙_, ap, ap₂}
 use mathlib.Core.Bool.{Bool, true, false}
 use mathlib.Core.List.{List, _++_}
-use lib.ListN.{length, take, drop}
+use lib.ListN.{length, drop}
 use borrow.Author.Tests.{le-leb, lt-leb}
 use Rattle.field.specs.Limits.{record-limit}
 use Rattle.field.specs.Refusals.{no-marking, record-too-long}
@@ -26,7 +25,7 @@ use Rattle.run.specs.Run.{run}
 use Rattle.run.specs.Says.{ran-says}
 use Rattle.run.specs.declared.Ran.{Ran}
 use Rattle.run.specs.declared.Ran.the-variants.{Refused}
-use Rattle.replay.specs.Replay.{Started, Replayed, replayed, start, replay}
+use Rattle.replay.specs.Replay.{Started, replayed, start, replay}
 use Rattle.replay.specs.OnANet.{start-on, RunIs, ReplayIs}
 
 -- What the call is to leave.

@@ -2,16 +2,16 @@
 -- True because each work table is the net's own in front of something, and such tables, lent, are a net and read back as it.
 use Prim.Native.Nat.{ℕ, _+_, _*_, _≤_}
 use native.Mathlib.Omega.{arith}
-use mathlib.Core.Path.{_≡_, refl, sym, _∙_, ap, subst}
+use mathlib.Core.Path.{_≡_, sym, _∙_, ap, subst}
 use mathlib.Core.Bool.{true}
 use mathlib.Core.List.{List, [], _++_}
-use lib.ListN.{length, take, drop, take-append-drop}
+use lib.ListN.{length, drop, take-append-drop}
 use Rattle.field.specs.Refusals.{no-net}
 use Rattle.field.specs.Answer.{Answer, good, _>>=_}
 use Rattle.field.proofs.Answers.{check-good}
 use Rattle.algebra.specs.Net.{Net, place-count}
 use Rattle.algebra.specs.Arcs.{net-of}
-use Rattle.net.specs.Tables.{Tables, kinds-of, rows-of, arcs-of, tables-of}
+use Rattle.net.specs.Tables.{kinds-of, rows-of, arcs-of, tables-of}
 use Rattle.net.specs.Check.{is-net, check-net}
 use Rattle.net.proofs.ReadTables.{lent-tables}
 use Rattle.boxes.specs.Compile.{counts-of}

@@ -1,6 +1,6 @@
 -- Replay once the plan's net stands in the work room: "35 (short only), then 20", and then the run. The inner functions' contracts speak of every
 -- net that the rows and arcs hold.
-use Prim.Native.Nat.{ℕ, _+_}
+use Prim.Native.Nat.{ℕ}
 use mathlib.Core.Path.{_≡_}
 use mathlib.Core.List.{List}
 use Rattle.field.specs.Answer.{Answer, good, _>>=_, _>>_}
