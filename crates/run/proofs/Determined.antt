@@ -15,7 +15,7 @@ use Rattle.run.specs.declared.Ran.the-variants.{Finished, Unfinished, Re
 differ : {X : Type 0} → _≡_ {A = ℕ} 0 1 → X
 differ z = absurd (let w : ⊥ = omega arith in w)
 
-ran-once : (r q : Ran) → ran-says r ≡ ran-says q → r ≡ q
+pub ran-once : (r q : Ran) → ran-says r ≡ ran-says q → r ≡ q
 ran-once (Finished k) (Finished j) e = let p : k ≡ j = cc in λ i. Finished (p i)
 ran-once (Finished k) (Unfinished j) e = differ (cc)
 ran-once (Finished k) (Refused n c j) e = differ (cc)
