@@ -14,6 +14,13 @@ use Rattle.plan.specs.Says as plan-says
 use Rattle.plan.specs.declared.PlanRead.{PlanRead}
 use Rattle.plan.specs.declared.PlanRead.the-variants as plan-read
 use Rattle.plan.proofs.ReaderDetermined.{answer-determined, rows-determined}
+use Rattle.boxes.specs.Compile.{Counts, compile}
+use Rattle.boxes.specs.Compile as paper
+use Rattle.compile.specs.Built.{compiling-says}
+use Rattle.compile.specs.Built as built
+use Rattle.compile.specs.declared.Compiling.{Compiling}
+use Rattle.compile.specs.declared.Compiling.the-variants as compiling
+use Rattle.compile.proofs.Determined.{Allowed, compile-determined}
 use Rattle.net.specs.Check.{is-net}
 use Rattle.net.specs.Lent.{lent}
 use Rattle.step.specs.Fire.{fire}
@@ -56,6 +63,27 @@ rows-answered plan E e rows = record { some = go (read-plan plan); only = λ a b
     go : (a : Answer Expr) → (exit : List ℕ) × plan-says.RowsAre a rows exit
     go (good F) = (node-table F ++ drop (6 * node-count F) rows, refl)
     go (refused n c) = (rows, tt)
+
+-- Compiling, with the three tables.
+pub record Compiled : Type 0 where
+  pub answer : Compiling
+  pub kinds : List ℕ
+  pub rows : List ℕ
+  pub arcs : List ℕ
+
+pub compile-answered : (plan kinds rows arcs : List ℕ) → One {A = Compiled} (λ r. Allowed plan kinds rows arcs (r .answer) (r .kinds) (r .rows) (r .arcs))
+compile-answered plan kinds rows arcs = record {
+  some = let a = go (c .answer) in let t = c .tables in
+      (record { answer = a .0; kinds = t .kinds; rows = t .rows; arcs = t .arcs }, record { answer = a .1; kinds-are = refl; rows-are = refl; arcs-are = refl });
+  only = λ a b e f. let p = compile-determined plan kinds rows arcs (a .answer) (b .answer) (a .kinds) (a .rows) (a .arcs) (b .kinds) (b .rows) (b .arcs) e f in λ i. record { answer = p .0 i; kinds = p .1 i; rows = p .2 i; arcs = p .3 i };
+}
+  where
+    c : paper.Compiled
+    c = compile plan (built.lent kinds rows arcs)
+
+    go : (a : Answer Counts) → (r : Compiling) × (compiling-says r ≡ a)
+    go (good n) = (compiling.Made (n .places) (n .transitions) (n .arcs) (n .entries) (n .internals), refl)
+    go (refused n k) = (compiling.Refused n k, refl)
 
 module _ (kinds rows arcs : List ℕ) (places transitions arc-count : ℕ) where
   -- Check 30.
