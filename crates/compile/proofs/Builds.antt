@@ -45,7 +45,9 @@ use Rattle.arcs.proofs.AskedMet.{table-length, counted-in-front}
 use Rattle.compile.specs.Judged.{check-places, check-transitions, check-arcs, judge, judged}
 use Rattle.compile.specs.Ready.{Sizes, ready-sizes, ready, front-says, TablesAre}
 use Rattle.compile.specs.Rows.{item-at, listed-at, listed-from, Put, OfAll, Whole, AskedAll, made}
-use Rattle.compile.specs.Built.{counted, plan-counts, WorkIs, MadeOf}
+use Rattle.compile.specs.Built.{counted, Told, Begin, MadeOf, BuiltIs}
+use Rattle.compile.specs.declared.building.Built.{Built}
+use Rattle.compile.specs.declared.building.Built.the-variants as built
 use Rattle.compile.specs.declared.front.Judgement.{Judgement}
 use Rattle.compile.specs.declared.front.Judgement.the-variants.{Refused, Ready}
 use Rattle.compile.proofs.Judges.{leb-cut, leb-is-true, leb-is-false, counts-first, accept-judged}
@@ -85,31 +87,40 @@ module _ {table : List ℕ} {nodes : ℕ} {counts list : List ℕ} {many : ℕ} 
       let c = counts-here counts 0 E stand (omega (arith, w .of .few, places-length 0 E)) in
       (ap (λ k. k .entries) c ∙ sym (entries-length 0 E), ap (λ k. k .internals) c ∙ sym (internals-length 0 E), ap (λ k. k .exits) c ∙ sym (exits-length 0 E))
 
-  module _ {r : ℕ} {rows rows′ arcs arcs′ : List ℕ} (p : Put r 0 0 (made E (listed-from list 0 many)) rows rows′ arcs arcs′) where
-    put-net : Put r 0 0 (net-of E .transitions) rows rows′ arcs arcs′
+  module _ {room r : ℕ} {rows rows′ arcs arcs′ : List ℕ} (p : Put room r 0 0 (made E (listed-from list 0 many)) rows rows′ arcs arcs′) where
+    put-net : Put room r 0 0 (net-of E .transitions) rows rows′ arcs arcs′
     unfolding net-of
     put-net = rw (w .listed) at p
 
-    pub too-many : arc-limit < r → MadeOf E (refused too-many-arcs 0) rows′ arcs′
+    pub too-many : room < r → arc-limit ≤ room → check-arcs E ≡ refused too-many-arcs 0
     unfolding arcs-of
-    too-many h =
-        let e = arcs-many E (omega (arith, put-net .beyond h)) in
-        record { says = ap (λ a. a >> good (counts-of (net-of E))) (sym e); work = λ g. good-not-refused (check-arcs E) tt too-many-arcs 0 g e }
+    too-many h long = arcs-many E (omega (arith, put-net .beyond h))
 
-    pub net-made : r ≤ arc-limit → many ≤ 1024 → length rows ≡ 6144 → length arcs ≡ 16384 → {answer : Answer Counts} → answer ≡ good (counted counts many r) → MadeOf E answer rows′ arcs′
-    unfolding rows-of arcs-of counts-of tables-of
-    net-made h few long-rows long-arcs says =
-        let q = put-net in
-        let l : r ≡ length (arcs-from (net-of E .transitions)) = q .ends h ∙ zero-add _ in
-        let e : check-arcs E ≡ good tt = arcs-few E (omega arith) in
+    ends-net : r ≤ room → r ≡ length (arcs-of (net-of E))
+    unfolding arcs-of
+    ends-net h = put-net .ends h ∙ zero-add _
+
+    counts-same : r ≤ room → counted counts many r ≡ counts-of (net-of E)
+    unfolding counts-of tables-of
+    counts-same h =
         let (a, b, c) = counts-are in
+        let l = ends-net h in
+        λ k. record { places = a k + (b k + c k); transitions = how-many k; arcs = l k; entries = a k; internals = b k }
+
+    work : r ≤ room → 6 * many ≤ length rows → room ≡ length arcs → Begin rows′ arcs′ E
+    unfolding rows-of arcs-of
+    work h long-rows e =
+        let q = put-net in
+        let ts = net-of E .transitions in
         record {
-          says = says ∙ (λ k. good (record { places = a k + (b k + c k); transitions = how-many k; arcs = l k; entries = a k; internals = b k })) ∙ ap (λ s. s >> good (counts-of (net-of E))) (sym e);
-          work = λ _. (
-            ap (take (6 * length (net-of E .transitions))) (q .in-rows h) ∙ front-of (rows-from 0 (net-of E .transitions)) rows (6 * length (net-of E .transitions)) (rows-from-length 0 (net-of E .transitions)) (omega (arith, how-many)),
-            ap (take (length (arcs-from (net-of E .transitions)))) (q .in-arcs h) ∙ front-of (arcs-from (net-of E .transitions)) arcs (length (arcs-from (net-of E .transitions))) refl (omega arith),
-          );
+          rows-are = ap (take (6 * length ts)) (q .in-rows h) ∙ front-of (rows-from 0 ts) rows (6 * length ts) (rows-from-length 0 ts) (omega (arith, how-many));
+          arcs-are = ap (take (length (arcs-from ts))) (q .in-arcs h) ∙ front-of (arcs-from ts) arcs (length (arcs-from ts)) refl (omega (arith, ends-net h));
         }
+
+    pub net-made : r ≤ room → 6 * many ≤ length rows → room ≡ length arcs → room ≤ arc-limit → (b : Built) → Told counts many r b → MadeOf E b rows′ arcs′
+    net-made h long-rows e few (built.Refused n c) t = absurd t
+    net-made h long-rows e few built.NoRoom t = absurd t
+    net-made h long-rows e few (built.Made ps n count es is) t = (arcs-few E (omega (arith, ends-net h)), t ∙ counts-same h, work h long-rows e)
 
 -- ---- the list that the judgement leaves is the plan's transitions
 item-back : (hi : ℕ) → hi ≤ 256 → (x : Item) → InRange 0 hi x → item-of (first x) (second x) ≡ x
@@ -214,30 +225,20 @@ is-ready plan nodes many table table′ counts counts′ list list′ r s w e = 
         }
 
 -- ---- the answers of the whole
-pub not-ready : (plan : List ℕ) (n c : ℕ) (rows arcs : List ℕ) (r : Judgement) → front-says r ≡ ready plan → r ≡ Refused n c → (refused n c ≡ plan-counts plan) × WorkIs (accept plan) rows arcs
-unfolding plan-counts
-not-ready plan n c rows arcs r s e = rw (accept-judged plan) (go (judged plan) (sym (ap front-says e) ∙ s))
+pub not-ready : (plan : List ℕ) (n c : ℕ) (r : Judgement) → front-says r ≡ ready plan → r ≡ Refused n c → accept plan ≡ refused n c
+not-ready plan n c r s e = accept-judged plan ∙ go (judged plan) (sym (ap front-says e) ∙ s)
   where
-    go : (a : Answer Expr) → refused n c ≡ (a >>= λ E. good (ready-sizes E))
-        → (refused n c ≡ ((a >>= λ E. check-arcs E >> good E) >>= λ E. good (counts-of (net-of E)))) × WorkIs (a >>= λ E. check-arcs E >> good E) rows arcs
+    go : (a : Answer Expr) → refused n c ≡ (a >>= λ E. good (ready-sizes E)) → (a >>= λ E. check-arcs E >> good E) ≡ refused n c
     go (good E) f = good-not-refused _ _ n c refl (sym f)
-    go (refused m d) f = let p : n ≡ m = cc in let q : c ≡ d = cc in ((λ k. refused (p k) (q k)), tt)
+    go (refused m d) f = let p : n ≡ m = cc in let q : c ≡ d = cc in λ k. refused (sym p k) (sym q k)
 
-module _ (plan : List ℕ) (E : Expr) (passed : judged plan ≡ good E) (answer : Answer Counts) (rows arcs : List ℕ) (m : MadeOf E answer rows arcs) where
-  accept-is : accept plan ≡ (check-arcs E >> good E)
-  accept-is = accept-judged plan ∙ ap (λ a. a >>= λ F. check-arcs F >> good F) passed
+pub net-built : (plan : List ℕ) (E : Expr) → judged plan ≡ good E → (b : Built) (rows arcs : List ℕ) → MadeOf E b rows arcs → BuiltIs plan b rows arcs
+net-built plan E passed b rows arcs m = go b m
+  where
+    accept-is : accept plan ≡ (check-arcs E >> good E)
+    accept-is = accept-judged plan ∙ ap (λ a. a >>= λ F. check-arcs F >> good F) passed
 
-  arcs-then : (a : Answer (Unit {0})) → (a >> good (counts-of (net-of E))) ≡ ((a >> good E) >>= λ F. good (counts-of (net-of F)))
-  arcs-then (good u) = refl
-  arcs-then (refused n c) = refl
-
-  pub built-answer : answer ≡ plan-counts plan
-  unfolding plan-counts
-  built-answer = m .says ∙ arcs-then (check-arcs E) ∙ ap (λ a. a >>= λ F. good (counts-of (net-of F))) (sym accept-is)
-
-  pub built-tables : WorkIs (accept plan) rows arcs
-  built-tables = subst (λ a. WorkIs a rows arcs) (sym accept-is) (go (check-arcs E) refl)
-    where
-      go : (a : Answer (Unit {0})) → check-arcs E ≡ a → WorkIs (a >> good E) rows arcs
-      go (good u) e = m .work e
-      go (refused n c) e = tt
+    go : (b : Built) → MadeOf E b rows arcs → BuiltIs plan b rows arcs
+    go (built.Refused n c) m = accept-is ∙ ap (λ a. a >> good E) m
+    go built.NoRoom m = m
+    go (built.Made ps n count es is) m = record { expr = E; accepts = accept-is ∙ ap (λ a. a >> good E) (m .0); told = m .1; begin = m .2 }

@@ -4,7 +4,7 @@ use mathlib.Core.Path.{_≡_}
 use mathlib.Core.List.{List, [], _∷_, _++_, map}
 use lib.ListN.{length, getD, take}
 use lib.Seq.{sets}
-use Rattle.field.specs.Limits.{place-limit, arc-limit}
+use Rattle.field.specs.Limits.{place-limit}
 use Rattle.algebra.specs.Expr.{Expr}
 use Rattle.algebra.specs.Item.{Item}
 use Rattle.algebra.specs.Net.{Transition}
@@ -28,24 +28,24 @@ listed-from list t zero = []
 listed-from list t (suc n) = listed-at list t ∷ listed-from list (suc t) n
 
 -- The transitions from t on are put: their rows from row t on, their arcs from a place of the arcs on, and the arcs then end at r;
--- or r is above the limit, and then so is the end of their arcs.
-pub record Put (r t at : ℕ) (ts : List Transition) (rows rows′ arcs arcs′ : List ℕ) : Type 0 where
-  pub ends : r ≤ arc-limit → r ≡ at + length (arcs-from ts)
-  pub in-rows : r ≤ arc-limit → rows′ ≡ sets rows (6 * t) (rows-from at ts)
-  pub in-arcs : r ≤ arc-limit → arcs′ ≡ sets arcs at (arcs-from ts)
-  pub beyond : arc-limit < r → arc-limit < at + length (arcs-from ts)
+-- or r is above a limit, and then so is the end of their arcs.
+pub record Put (limit r t at : ℕ) (ts : List Transition) (rows rows′ arcs arcs′ : List ℕ) : Type 0 where
+  pub ends : r ≤ limit → r ≡ at + length (arcs-from ts)
+  pub in-rows : r ≤ limit → rows′ ≡ sets rows (6 * t) (rows-from at ts)
+  pub in-arcs : r ≤ limit → arcs′ ≡ sets arcs at (arcs-from ts)
+  pub beyond : limit < r → limit < at + length (arcs-from ts)
 
 -- The arcs of one transition: where its inputs end, and its outputs.
-pub record PutArcs (middle end at : ℕ) (inputs outputs arcs arcs′ : List ℕ) : Type 0 where
-  pub half : end ≤ arc-limit → middle ≡ at + length inputs
-  pub whole : end ≤ arc-limit → end ≡ middle + length outputs
-  pub written : end ≤ arc-limit → arcs′ ≡ sets arcs at (inputs ++ outputs)
-  pub beyond : arc-limit < end → arc-limit < at + (length inputs + length outputs)
+pub record PutArcs (limit middle end at : ℕ) (inputs outputs arcs arcs′ : List ℕ) : Type 0 where
+  pub half : end ≤ limit → middle ≡ at + length inputs
+  pub whole : end ≤ limit → end ≡ middle + length outputs
+  pub written : end ≤ limit → arcs′ ≡ sets arcs at (inputs ++ outputs)
+  pub beyond : limit < end → limit < at + (length inputs + length outputs)
 
 -- The arcs of one side.
-pub record PutSide (end at : ℕ) (places arcs arcs′ : List ℕ) : Type 0 where
+pub record PutSide (limit end at : ℕ) (places arcs arcs′ : List ℕ) : Type 0 where
   pub ends : end ≡ at + length places
-  pub written : end ≤ arc-limit → arcs′ ≡ sets arcs at places
+  pub written : end ≤ limit → arcs′ ≡ sets arcs at places
 
 -- The work tables are an expression's: its nodes, their counts of places, and a list of transitions with its actions.
 pub record OfAll (table : List ℕ) (nodes : ℕ) (counts list : List ℕ) (many : ℕ) (E : Expr) : Type 0 where

@@ -5,18 +5,22 @@ pub mod front;
 pub mod kinds;
 mod rows;
 
+use crate::building::Built;
 use crate::building::build;
 use crate::copying::put;
 use crate::kinds::write_kinds;
 ghost use mathlib.Core.Path.{_≡_};
-ghost use mathlib.Core.Bool.{_&&_};
-ghost use mathlib.Core.List.{_++_};
-ghost use Prim.Native.Nat.{_+_, _*_, _≤_};
+ghost use mathlib.Core.Bool.{true, _&&_};
+ghost use mathlib.Core.List.{List, _++_};
+ghost use Prim.Native.Nat.{ℕ, _+_, _*_, _≤_};
 ghost use lib.Dec.{leb};
 ghost use lib.ListN.{length, take, drop, replicate};
 ghost use lib.Seq.{sets};
 ghost use Rattle.boxes.specs.Compile as paper;
-ghost use Rattle.compile.specs.Built.{compiling-says, lent};
+ghost use Rattle.compile.specs.Built.{compiling-says, built-says, found-room, BuiltIs, Holds, Lends, Tries, lent};
+
+// A plan of so many bytes is tried in a small room.
+const SMALL_PLAN: usize = 128;
 
 // The counts of the net, or the first refusal with what it carries.
 pub enum Compiling {
@@ -28,15 +32,6 @@ pub enum Compiling {
         entries: usize,
         internals: usize,
     },
-}
-
-// Room for the rows and the arcs of any net.
-pub fn no_rows() -> [u16; 6144] {
-    [0u16; 6144]
-}
-
-pub fn no_arcs() -> [u16; 16384] {
-    [0u16; 16384]
 }
 
 // 14: each lent table holds what is to be written.
@@ -62,13 +57,13 @@ fn write_tables(
     entries: usize,
     internals: usize,
     exits: usize,
-    made_rows: &[u16; 6144],
+    made_rows: &[u16],
     transitions: usize,
-    made_arcs: &[u16; 16384],
+    made_arcs: &[u16],
     count: usize,
 )
     requires { ⌜ (entries + internals + exits ≤ length (now kinds)) × (entries + internals + exits ≤ 2048) ⌝ }
-    requires { ⌜ (6 * transitions ≤ length (now rows)) × (transitions ≤ 1024) × (count ≤ length (now arcs)) × (count ≤ 16384) ⌝ }
+    requires { ⌜ (6 * transitions ≤ length (now rows)) × (6 * transitions ≤ length (now «made_rows»)) × (count ≤ length (now arcs)) × (count ≤ length (now «made_arcs»)) × (transitions ≤ 1024) ⌝ }
     ensures { λ _. ⌜ now (kinds .exit) ≡ replicate entries 1 ++ (replicate internals 2 ++ replicate exits 3) ++ drop (entries + internals + exits) (now (kinds .entry)) ⌝ }
     ensures { λ _. ⌜ now (rows .exit) ≡ sets (now (rows .entry)) 0 (take (6 * transitions) (now («made_rows» .entry))) ⌝ }
     ensures { λ _. ⌜ now (arcs .exit) ≡ sets (now (arcs .entry)) 0 (take count (now («made_arcs» .entry))) ⌝ }
@@ -78,19 +73,22 @@ fn write_tables(
     put(arcs, 0, made_arcs, count);
 }
 
-// The three tables of the plan's net. Nothing lent is written before all is known, and on refusal nothing is; what lies behind the net's part
-// is never touched.
-pub fn compile(plan: &[u8], kinds: &mut [u8], rows: &mut [u16], arcs: &mut [u16]) -> Compiling
-    ensures answer { λ r. ⌜ compiling-says r ≡ paper.compile (now (plan .entry)) (lent (now (kinds .entry)) (now (rows .entry)) (now (arcs .entry))) .answer ⌝ }
-    ensures kinds { λ r. ⌜ now (kinds .exit) ≡ paper.compile (now (plan .entry)) (lent (now (kinds .entry)) (now (rows .entry)) (now (arcs .entry))) .tables .kinds ⌝ }
-    ensures rows { λ r. ⌜ now (rows .exit) ≡ paper.compile (now (plan .entry)) (lent (now (kinds .entry)) (now (rows .entry)) (now (arcs .entry))) .tables .rows ⌝ }
-    ensures arcs { λ r. ⌜ now (arcs .exit) ≡ paper.compile (now (plan .entry)) (lent (now (kinds .entry)) (now (rows .entry)) (now (arcs .entry))) .tables .arcs ⌝ }
+// 14, or the net that was built is written to the lent tables.
+fn lend(
+    built: Built,
+    made_rows: &[u16],
+    made_arcs: &[u16],
+    kinds: &mut [u8],
+    rows: &mut [u16],
+    arcs: &mut [u16],
+) -> Built
+    requires { ⌜ Holds built (now «made_rows») (now «made_arcs») ⌝ }
+    ensures { λ r. ⌜ ((plan : List ℕ) → BuiltIs plan built (now («made_rows» .entry)) (now («made_arcs» .entry)) → Lends plan built (lent (now (kinds .entry)) (now (rows .entry)) (now (arcs .entry))) r (now (kinds .exit)) (now (rows .exit)) (now (arcs .exit))) ⌝ }
 {
-    let mut made_rows = no_rows();
-    let mut made_arcs = no_arcs();
-    match build(plan, &mut made_rows, &mut made_arcs) {
-        Compiling::Refused(number, carried) => Compiling::Refused(number, carried),
-        Compiling::Made {
+    match built {
+        Built::Refused(number, carried) => Built::Refused(number, carried),
+        Built::NoRoom => Built::NoRoom,
+        Built::Made {
             places,
             transitions,
             arcs: count,
@@ -98,7 +96,7 @@ pub fn compile(plan: &[u8], kinds: &mut [u8], rows: &mut [u16], arcs: &mut [u16]
             internals,
         } => {
             if !tables_reach(kinds, rows, arcs, places, transitions, count) {
-                return Compiling::Refused(field::TABLE_TOO_SHORT, 0);
+                return Built::Refused(field::TABLE_TOO_SHORT, 0);
             }
             write_tables(
                 kinds,
@@ -107,12 +105,12 @@ pub fn compile(plan: &[u8], kinds: &mut [u8], rows: &mut [u16], arcs: &mut [u16]
                 entries,
                 internals,
                 places - entries - internals,
-                &made_rows,
+                made_rows,
                 transitions,
-                &made_arcs,
+                made_arcs,
                 count,
             );
-            Compiling::Made {
+            Built::Made {
                 places: places,
                 transitions: transitions,
                 arcs: count,
@@ -121,4 +119,81 @@ pub fn compile(plan: &[u8], kinds: &mut [u8], rows: &mut [u16], arcs: &mut [u16]
             }
         }
     }
+}
+
+// In a small room, which may be too short for the net.
+fn compile_small(plan: &[u8], kinds: &mut [u8], rows: &mut [u16], arcs: &mut [u16]) -> Built
+    ensures { λ r. ⌜ Tries (now (plan .entry)) (lent (now (kinds .entry)) (now (rows .entry)) (now (arcs .entry))) r (now (kinds .exit)) (now (rows .exit)) (now (arcs .exit)) ⌝ }
+{
+    let mut made_rows = [0u16; 384];
+    let mut made_arcs = [0u16; 1024];
+    let built = build(plan, &mut made_rows, &mut made_arcs);
+    lend(built, &made_rows, &made_arcs, kinds, rows, arcs)
+}
+
+// In room for any net.
+fn compile_large(plan: &[u8], kinds: &mut [u8], rows: &mut [u16], arcs: &mut [u16]) -> Built
+    ensures tries { λ r. ⌜ Tries (now (plan .entry)) (lent (now (kinds .entry)) (now (rows .entry)) (now (arcs .entry))) r (now (kinds .exit)) (now (rows .exit)) (now (arcs .exit)) ⌝ }
+    ensures room { λ r. ⌜ found-room r ≡ true ⌝ }
+{
+    let mut made_rows = [0u16; 6144];
+    let mut made_arcs = [0u16; 16384];
+    let built = build(plan, &mut made_rows, &mut made_arcs);
+    lend(built, &made_rows, &made_arcs, kinds, rows, arcs)
+}
+
+fn has_room(built: Built) -> bool
+    ensures { λ r. ⌜ r ≡ found-room built ⌝ }
+{
+    match built {
+        Built::Refused(_, _) => true,
+        Built::NoRoom => false,
+        Built::Made {
+            places: _,
+            transitions: _,
+            arcs: _,
+            entries: _,
+            internals: _,
+        } => true,
+    }
+}
+
+// The answer of a try that had room.
+fn said(built: Built) -> Compiling
+    ensures { λ r. ⌜ compiling-says r ≡ built-says built ⌝ }
+{
+    match built {
+        Built::Refused(number, carried) => Compiling::Refused(number, carried),
+        Built::NoRoom => Compiling::Refused(field::TABLE_TOO_SHORT, 0),
+        Built::Made {
+            places,
+            transitions,
+            arcs: count,
+            entries,
+            internals,
+        } => Compiling::Made {
+            places: places,
+            transitions: transitions,
+            arcs: count,
+            entries: entries,
+            internals: internals,
+        },
+    }
+}
+
+// The three tables of the plan's net. Nothing lent is written before all is known, and on refusal nothing is; what lies behind the net's part
+// is never touched. A small plan is tried in a small room first, so that it does not pay for the making of a large one.
+pub fn compile(plan: &[u8], kinds: &mut [u8], rows: &mut [u16], arcs: &mut [u16]) -> Compiling
+    ensures answer { λ r. ⌜ compiling-says r ≡ paper.compile (now (plan .entry)) (lent (now (kinds .entry)) (now (rows .entry)) (now (arcs .entry))) .answer ⌝ }
+    ensures kinds { λ r. ⌜ now (kinds .exit) ≡ paper.compile (now (plan .entry)) (lent (now (kinds .entry)) (now (rows .entry)) (now (arcs .entry))) .tables .kinds ⌝ }
+    ensures rows { λ r. ⌜ now (rows .exit) ≡ paper.compile (now (plan .entry)) (lent (now (kinds .entry)) (now (rows .entry)) (now (arcs .entry))) .tables .rows ⌝ }
+    ensures arcs { λ r. ⌜ now (arcs .exit) ≡ paper.compile (now (plan .entry)) (lent (now (kinds .entry)) (now (rows .entry)) (now (arcs .entry))) .tables .arcs ⌝ }
+{
+    if plan.len() <= SMALL_PLAN {
+        let small = compile_small(plan, kinds, rows, arcs);
+        if has_room(small) {
+            return said(small);
+        }
+    }
+    said(compile_large(plan, kinds, rows, arcs))
 }

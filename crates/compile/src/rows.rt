@@ -23,7 +23,7 @@ pub struct Ends {
     pub end: usize,
 }
 
-// The places on one side of a transition go behind the arcs that are there, unless they would pass the limit. Where they end is told either way.
+// The places on one side of a transition go behind the arcs that are there, where there is room. Where they end is told either way.
 fn put_side(
     table: &[u16; 8196],
     nodes: usize,
@@ -34,15 +34,15 @@ fn put_side(
     left: &mut [u16; 2048],
     right: &mut [u16; 2048],
     both: &mut [u16; 2048],
-    arcs: &mut [u16; 16384],
+    arcs: &mut [u16],
     at: usize,
 ) -> usize
-    requires { ⌜ Asked (now table) nodes (now counts) (item-of first second) × (at ≤ 16384) ⌝ }
-    ensures { λ r. ⌜ ((E : Expr) → Of (now (table .entry)) nodes (now (counts .entry)) (item-of first second) E → PutSide r at (numbers (by-item (passes side) (item-of first second)) 0 (places 0 E)) (now (arcs .entry)) (now (arcs .exit))) ⌝ }
+    requires { ⌜ Asked (now table) nodes (now counts) (item-of first second) × (at ≤ length (now arcs)) × (length (now arcs) ≤ 16384) ⌝ }
+    ensures { λ r. ⌜ ((E : Expr) → Of (now (table .entry)) nodes (now (counts .entry)) (item-of first second) E → PutSide (length (now (arcs .entry))) r at (numbers (by-item (passes side) (item-of first second)) 0 (places 0 E)) (now (arcs .entry)) (now (arcs .exit))) ⌝ }
 {
     let count = arcs_of_item(table, nodes, counts, first, second, side, left, right, both);
     let end = at + count;
-    if end <= field::ARC_LIMIT {
+    if end <= arcs.len() {
         put(arcs, at, both, count);
     }
     end
@@ -58,11 +58,11 @@ fn put_arcs(
     left: &mut [u16; 2048],
     right: &mut [u16; 2048],
     both: &mut [u16; 2048],
-    arcs: &mut [u16; 16384],
+    arcs: &mut [u16],
     at: usize,
 ) -> Ends
-    requires { ⌜ Asked (now table) nodes (now counts) (item-of first second) × (at ≤ 16384) ⌝ }
-    ensures { λ r. ⌜ ((E : Expr) → Of (now (table .entry)) nodes (now (counts .entry)) (item-of first second) E → PutArcs (r .middle) (r .end) at (numbers (by-item consumes (item-of first second)) 0 (places 0 E)) (numbers (by-item produces (item-of first second)) 0 (places 0 E)) (now (arcs .entry)) (now (arcs .exit))) ⌝ }
+    requires { ⌜ Asked (now table) nodes (now counts) (item-of first second) × (at ≤ length (now arcs)) × (length (now arcs) ≤ 16384) ⌝ }
+    ensures { λ r. ⌜ ((E : Expr) → Of (now (table .entry)) nodes (now (counts .entry)) (item-of first second) E → PutArcs (length (now (arcs .entry))) (r .middle) (r .end) at (numbers (by-item consumes (item-of first second)) 0 (places 0 E)) (numbers (by-item produces (item-of first second)) 0 (places 0 E)) (now (arcs .entry)) (now (arcs .exit))) ⌝ }
 {
     let middle = put_side(
         table,
@@ -77,7 +77,7 @@ fn put_arcs(
         arcs,
         at,
     );
-    if field::ARC_LIMIT < middle {
+    if arcs.len() < middle {
         return Ends {
             middle: middle,
             end: middle,
@@ -104,7 +104,7 @@ fn put_arcs(
 
 // Row t of the transitions.
 fn put_row(
-    rows: &mut [u16; 6144],
+    rows: &mut [u16],
     t: usize,
     label: u16,
     first: u16,
@@ -113,7 +113,7 @@ fn put_row(
     inputs: u16,
     outputs: u16,
 )
-    requires { ⌜ t < 1024 ⌝ }
+    requires { ⌜ 6 * (t + 1) ≤ length (now rows) ⌝ }
     ensures { λ _. ⌜ now (rows .exit) ≡ sets (now (rows .entry)) (6 * t) (label ∷ (first ∷ (second ∷ (start ∷ (inputs ∷ (outputs ∷ [])))))) ⌝ }
 {
     let row = [label, first, second, start, inputs, outputs];
@@ -130,12 +130,12 @@ fn put_transition(
     left: &mut [u16; 2048],
     right: &mut [u16; 2048],
     both: &mut [u16; 2048],
-    rows: &mut [u16; 6144],
-    arcs: &mut [u16; 16384],
+    rows: &mut [u16],
+    arcs: &mut [u16],
     at: usize,
 ) -> usize
-    requires { ⌜ Asked (now table) nodes (now counts) (item-at (now list) t) × (t < 1024) × (at ≤ 16384) ⌝ }
-    ensures { λ r. ⌜ ((E : Expr) → Of (now (table .entry)) nodes (now (counts .entry)) (item-at (now (list .entry)) t) E → Put r t at (transition-of (places 0 E) (listed-at (now (list .entry)) t) ∷ []) (now (rows .entry)) (now (rows .exit)) (now (arcs .entry)) (now (arcs .exit))) ⌝ }
+    requires { ⌜ Asked (now table) nodes (now counts) (item-at (now list) t) × (t < 1024) × (6 * (t + 1) ≤ length (now rows)) × (at ≤ length (now arcs)) × (length (now arcs) ≤ 16384) ⌝ }
+    ensures { λ r. ⌜ ((E : Expr) → Of (now (table .entry)) nodes (now (counts .entry)) (item-at (now (list .entry)) t) E → Put (length (now (arcs .entry))) r t at (transition-of (places 0 E) (listed-at (now (list .entry)) t) ∷ []) (now (rows .entry)) (now (rows .exit)) (now (arcs .entry)) (now (arcs .exit))) ⌝ }
 {
     let label = list[3 * t];
     let first = list[3 * t + 1];
@@ -154,7 +154,7 @@ fn put_transition(
     );
     let middle = ends.middle;
     let end = ends.end;
-    if end <= field::ARC_LIMIT {
+    if end <= arcs.len() {
         put_row(
             rows,
             t,
@@ -169,7 +169,7 @@ fn put_transition(
     end
 }
 
-// All transitions of the list. Answers where the arcs end, or a number above the limit as soon as they pass it.
+// All transitions of the list. Answers where the arcs end, or a number above the room for arcs as soon as they pass it.
 pub fn put_transitions(
     table: &[u16; 8196],
     nodes: usize,
@@ -179,11 +179,11 @@ pub fn put_transitions(
     left: &mut [u16; 2048],
     right: &mut [u16; 2048],
     both: &mut [u16; 2048],
-    rows: &mut [u16; 6144],
-    arcs: &mut [u16; 16384],
+    rows: &mut [u16],
+    arcs: &mut [u16],
 ) -> usize
-    requires { ⌜ AskedAll (now table) nodes (now counts) (now list) many × (many ≤ 1024) ⌝ }
-    ensures { λ r. ⌜ ((E : Expr) → OfAll (now (table .entry)) nodes (now (counts .entry)) (now (list .entry)) many E → Put r 0 0 (made E (listed-from (now (list .entry)) 0 many)) (now (rows .entry)) (now (rows .exit)) (now (arcs .entry)) (now (arcs .exit))) ⌝ }
+    requires { ⌜ AskedAll (now table) nodes (now counts) (now list) many × (many ≤ 1024) × (6 * many ≤ length (now rows)) × (length (now arcs) ≤ 16384) ⌝ }
+    ensures { λ r. ⌜ ((E : Expr) → OfAll (now (table .entry)) nodes (now (counts .entry)) (now (list .entry)) many E → Put (length (now (arcs .entry))) r 0 0 (made E (listed-from (now (list .entry)) 0 many)) (now (rows .entry)) (now (rows .exit)) (now (arcs .entry)) (now (arcs .exit))) ⌝ }
 {
     let mut t = 0;
     let mut at = 0;
@@ -201,7 +201,7 @@ pub fn put_transitions(
             arcs,
             at,
         );
-        if field::ARC_LIMIT < end {
+        if arcs.len() < end {
             return end;
         }
         at = end;

@@ -22,12 +22,12 @@ abbrev Within : Type 0
 Within = lts.After-put-row-arg (wide-reads.Asked, wide-reads.Learnt, put-arcs-reads.Asked, put-arcs-reads.Learnt, put-row-reads.Asked, put-row-reads.Learnt) reads.Pre reads.Post
 
 -- the arcs start, turn from inputs to outputs, and end, in this order
-turn : (c : Within) → (c .before .before .before .before .before .before .before .before .before .before .before .before .args .at ≤ c .before .before .put-arcs .result .middle) × (c .before .before .put-arcs .result .middle ≤ c .before .before .put-arcs .result .end)
+turn : (c : Within) → (c .before .before .before .before .before .before .before .before .before .before .before .before .before .before .before .before .args .at ≤ c .before .before .before .before .put-arcs .result .middle) × (c .before .before .before .before .put-arcs .result .middle ≤ c .before .before .before .before .put-arcs .result .end)
 turn c =
-    let s = c .before .before .before .before .before .before .before .before .before .before .before .before in
+    let s = c .before .before .before .before .before .before .before .before .before .before .before .before .before .before .before .before in
     let a = s .args in
-    let e = ap₂ item-of (c .before .before .before .before .before .before .before .before .wide .ensures .0) (c .before .before .before .before .before .before .before .wide2 .ensures .0) in
-    arcs-in-turn (a .table .now) (a .nodes) (a .counts .now) (c .before .before .put-arcs .ensures) e (s .pre .0) (omega arith)
+    let e = ap₂ item-of (c .before .before .before .before .before .before .before .before .before .before .wide .ensures .0) (c .before .before .before .before .before .before .before .before .before .wide2 .ensures .0) in
+    arcs-in-turn (a .table .now) (a .nodes) (a .counts .now) (c .before .before .before .before .put-arcs .ensures) e (s .pre .0) (omega arith)
 
 mul-label : tie.Need-mul-label
 mul-label c = search needs
@@ -70,10 +70,10 @@ wide-requires-2 c κs = search needs
 
 put-arcs-requires : tie.Need-put-arcs-requires
 put-arcs-requires c κs =
-    let s = c .before .before .before .before .before .before .before .before .before in
+    let s = c .before .before .before .before .before .before .before .before .before .before .before in
     let a = s .args in
     let e = ap₂ item-of (c .before .before .before .before .before .wide .ensures .0) (c .before .before .before .before .wide2 .ensures .0) in
-    (subst (Asked (a .table .now) (a .nodes) (a .counts .now)) (sym e) (s .pre .0), s .pre .2)
+    (subst (Asked (a .table .now) (a .nodes) (a .counts .now)) (sym e) (s .pre .0), s .pre .3, s .pre .4)
 
 cast-put-row : tie.Need-cast-put-row
 cast-put-row c = search needs
@@ -93,17 +93,26 @@ cast-put-row-3 c = search needs
 put-row-requires : tie.Need-put-row-requires
 put-row-requires c κs = search needs
 
+same-length : tie.Need-same-length
+same-length c = search needs
+
+same-length-2 : tie.Need-same-length-2
+same-length-2 c = search needs
+
 returns : tie.Need-returns
 returns c =
-    let a = c .before .before .before .before .before .before .before .before .before .before .before .before .before .args in
-    let e = ap₂ item-of (c .before .before .before .before .before .before .before .before .before .wide .ensures .0) (c .before .before .before .before .before .before .before .before .wide2 .ensures .0) in
-    λ E o. transition-put (a .list .now) (a .t) (a .at) _ _ E (arcs-of-listed (a .table .now) (a .nodes) (a .counts .now) (c .before .before .before .put-arcs .ensures) e E o) (omega arith) refl refl (c .put-row .ensures)
+    let a = c .before .before .before .before .before .before .before .before .before .before .before .before .before .before .before .before .before .before .before .args in
+    let e = ap₂ item-of (c .before .before .before .before .before .before .before .before .before .before .before .before .before .wide .ensures .0) (c .before .before .before .before .before .before .before .before .before .before .before .before .wide2 .ensures .0) in
+    λ E o. transition-put _ (a .list .now) (a .t) (a .at) _ _ E (arcs-of-listed (a .table .now) (a .nodes) (a .counts .now) (c .before .before .before .before .before .before .before .put-arcs .ensures) e E o) (omega arith) refl refl (c .before .before .put-row .ensures)
+
+same-length-3 : tie.Need-same-length-3
+same-length-3 c = search needs
 
 returns-2 : tie.Need-returns-2
 returns-2 c =
-    let a = c .before .before .before .before .before .before .before .before .before .before .before .args in
-    let e = ap₂ item-of (c .before .before .before .before .before .before .before .wide .ensures .0) (c .before .before .before .before .before .before .wide2 .ensures .0) in
-    λ E o. transition-over (a .list .now) (a .t) (a .at) _ _ E (arcs-of-listed (a .table .now) (a .nodes) (a .counts .now) (c .before .put-arcs .ensures) e E o) (omega arith)
+    let a = c .before .before .before .before .before .before .before .before .before .before .before .before .before .before .before .args in
+    let e = ap₂ item-of (c .before .before .before .before .before .before .before .before .before .wide .ensures .0) (c .before .before .before .before .before .before .before .before .wide2 .ensures .0) in
+    λ E o. transition-over _ (a .list .now) (a .t) (a .at) _ _ E (arcs-of-listed (a .table .now) (a .nodes) (a .counts .now) (c .before .before .before .put-arcs .ensures) e E o) (omega arith)
 
 pub put-transition-spec : {M : Type 1} → statement M
 put-transition-spec =
@@ -129,5 +138,8 @@ put-transition-spec =
     sub-put-row-2
     cast-put-row-3
     put-row-requires
+    same-length
+    same-length-2
     returns
+    same-length-3
     returns-2)
