@@ -5,6 +5,7 @@ use native.Mathlib.Omega.{arith}
 use native.Mathlib.Nat.{zero-add}
 use mathlib.Core.Path.{_≡_, refl, sym, _∙_, ap, ap₂, subst}
 use mathlib.Core.Bool.{Bool, true, false, _&&_}
+use mathlib.Core.Logic.{inl, inr}
 use mathlib.Core.List.{List, [], _∷_, _++_}
 use lib.ListN.{length, take, drop, replicate, length-append, length-replicate, length-take}
 use lib.Seq.{sets, sets-eq}
@@ -19,7 +20,7 @@ use Rattle.net.specs.Tables.{kinds-of, rows-from, rows-of, arcs-of, tables-of}
 use Rattle.boxes.specs.Compile.{Counts, counts-of, accept, Lent, Compiled, compiled, check-lent, compile-net, compile, over}
 use Rattle.boxes.proofs.CountsCutOff.{size-accepted, net-places}
 use Rattle.boxes.proofs.TablesAreANet.{accepted}
-use Rattle.compile.specs.Built.{counts, NetIs, Leaves, Same, Tries, Lends, built-says, found-room}
+use Rattle.compile.specs.Built.{counts, NetIs, BuiltIs, lent, Leaves, Same, Tries, Lends, built-says, found-room}
 use Rattle.compile.specs.declared.building.Built.{Built}
 use Rattle.compile.specs.declared.building.Built.the-variants as built
 
@@ -71,6 +72,10 @@ is-made plan places transitions count entries internals rows arcs w =
       room-rows = within (6 * transitions) rows (rows-from 0 (net-of E .transitions)) r (omega (arith, rows-length 0 (net-of E .transitions)));
       room-arcs = within count arcs (arcs-of (net-of E)) s (sym a);
     }
+
+pub made-of : (plan : List ℕ) (b : Built) (rows arcs : List ℕ) → BuiltIs plan b rows arcs → {places transitions count entries internals : ℕ} → b ≡ built.Made places transitions count entries internals
+    → IsMade plan places transitions count entries internals rows arcs
+made-of plan b rows arcs w {places} {transitions} {count} {entries} {internals} e = is-made plan places transitions count entries internals rows arcs (subst (λ x. BuiltIs plan x rows arcs) e w)
 
 leaves-by : (plan : List ℕ) (old : Lent) (c : Compiled) → compile plan old ≡ c → Leaves plan old (c .answer) (c .tables .kinds) (c .tables .rows) (c .tables .arcs)
 leaves-by plan old c e = record {
@@ -163,3 +168,14 @@ untouched plan b old e = record {
 
 pub lends : {plan : List ℕ} {b : Built} {old : Lent} (r : Built) {kinds rows arcs : List ℕ} → found-room b ≡ true → found-room r ≡ true → Leaves plan old (built-says r) kinds rows arcs → Lends plan b old r kinds rows arcs
 lends r e f l = record { room = f ∙ sym e; tries = record { no-room = λ g. absurd (let z : _≡_ {A = ℕ} 0 1 = cc in omega arith); does = λ _. l } }
+
+-- Room for any net is never short.
+pub large-room : (plan : List ℕ) (b : Built) (rows arcs : List ℕ) → BuiltIs plan b rows arcs → length rows ≡ 6144 → length arcs ≡ 16384 → found-room b ≡ true
+large-room plan (built.Refused n c) rows arcs w r a = refl
+large-room plan built.NoRoom rows arcs (inl h) r a = absurd (omega arith)
+large-room plan built.NoRoom rows arcs (inr h) r a = absurd (omega arith)
+large-room plan (built.Made places n count entries internals) rows arcs w r a = refl
+
+-- After a try that left all tables as they were, what is left is what is left of the tables lent.
+pub after-try : (plan kinds rows arcs k l m : List ℕ) → Same (lent kinds rows arcs) k l m → {answer : Answer Counts} {k′ l′ m′ : List ℕ} → Leaves plan (lent k l m) answer k′ l′ m′ → Leaves plan (lent kinds rows arcs) answer k′ l′ m′
+after-try plan kinds rows arcs k l m s {answer} {k′} {l′} {m′} x = subst (λ old. Leaves plan old answer k′ l′ m′) (λ i. lent (s .kinds-same i) (s .rows-same i) (s .arcs-same i)) x

@@ -189,11 +189,12 @@ pub fn compile(plan: &[u8], kinds: &mut [u8], rows: &mut [u16], arcs: &mut [u16]
     ensures rows { λ r. ⌜ now (rows .exit) ≡ paper.compile (now (plan .entry)) (lent (now (kinds .entry)) (now (rows .entry)) (now (arcs .entry))) .tables .rows ⌝ }
     ensures arcs { λ r. ⌜ now (arcs .exit) ≡ paper.compile (now (plan .entry)) (lent (now (kinds .entry)) (now (rows .entry)) (now (arcs .entry))) .tables .arcs ⌝ }
 {
-    if plan.len() <= SMALL_PLAN {
-        let small = compile_small(plan, kinds, rows, arcs);
-        if has_room(small) {
-            return said(small);
-        }
+    if SMALL_PLAN < plan.len() {
+        return said(compile_large(plan, kinds, rows, arcs));
+    }
+    let small = compile_small(plan, kinds, rows, arcs);
+    if has_room(small) {
+        return said(small);
     }
     said(compile_large(plan, kinds, rows, arcs))
 }

@@ -1,50 +1,45 @@
+-- `compile_large` meets its contract: what is built in a large room is lent.
+-- Assumes nothing.
+use mathlib.Core.Path.{_≡_, _∙_}
+use lib.ListN.{length}
+use Rattle.compile.proofs.CompileCall.{large-room}
 use borrow.Author.Needs.{needs}
 use Rattle.compile.proofs.compile_large.Statement.{statement}
 use Rattle.compile.proofs.compile_large.Tie as tie
-use Rattle.compile.proofs.compile_large.Reads as reads
-use Rattle.compile.proofs.compile_large.Lts as lts
-use Rattle.compile.proofs.building.build.Reads as build-reads
-use Rattle.compile.proofs.lend.Reads as lend-reads
 
--- src/lib.rt:141:29
 slice-aggregate-build : tie.Need-slice-aggregate-build
 slice-aggregate-build c = search needs
 
--- src/lib.rt:141:45
 slice-aggregate-build-2 : tie.Need-slice-aggregate-build-2
 slice-aggregate-build-2 c = search needs
 
--- src/lib.rt:141:9
 build-requires : tie.Need-build-requires
 build-requires c κs = search needs
 
--- src/lib.rt:142:17
 slice-aggregate-lend : tie.Need-slice-aggregate-lend
 slice-aggregate-lend c = search needs
 
--- src/lib.rt:142:29
 slice-aggregate-lend-2 : tie.Need-slice-aggregate-lend-2
 slice-aggregate-lend-2 c = search needs
 
--- src/lib.rt:142:5
 lend-requires : tie.Need-lend-requires
 lend-requires c κs = search needs
 
--- src/lib.rt:135:1
 same-length : tie.Need-same-length
 same-length c = search needs
 
--- src/lib.rt:135:1
 same-length-2 : tie.Need-same-length-2
 same-length-2 c = search needs
 
--- src/lib.rt:135:1
 same-length-3 : tie.Need-same-length-3
 same-length-3 c = search needs
 
--- src/lib.rt:135:1
 returns : tie.Need-returns
-returns c = ?
+returns c =
+    let plan = c .before .before .before .before .before .before .before .before .before .before .before .before .before .before .before .before .before .before .before .before .before .args .plan .now in
+    let b = c .before .before .before .before .before .before .before .before .before .before .before .before .before .before .build in
+    let l = c .before .before .before .before .before .before .lend .ensures plan (b .ensures) in
+    (l .tries, l .room ∙ large-room plan (b .result) (b .last .1 .0) (b .last .1 .1 .0) (b .ensures) (c .before .before .before .before .before .before .before .before .before .before .before .before .before .made-rows2 .given) (c .before .before .before .before .before .before .before .before .before .before .before .before .made-arcs2 .given))
 
 pub compile-large-spec : {M : Type 1} → statement M
 compile-large-spec =

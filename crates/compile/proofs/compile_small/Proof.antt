@@ -1,50 +1,38 @@
+-- `compile_small` meets its contract: what is built in a small room is lent.
+-- Assumes nothing.
 use borrow.Author.Needs.{needs}
 use Rattle.compile.proofs.compile_small.Statement.{statement}
 use Rattle.compile.proofs.compile_small.Tie as tie
-use Rattle.compile.proofs.compile_small.Reads as reads
-use Rattle.compile.proofs.compile_small.Lts as lts
-use Rattle.compile.proofs.building.build.Reads as build-reads
-use Rattle.compile.proofs.lend.Reads as lend-reads
 
--- src/lib.rt:130:29
 slice-aggregate-build : tie.Need-slice-aggregate-build
 slice-aggregate-build c = search needs
 
--- src/lib.rt:130:45
 slice-aggregate-build-2 : tie.Need-slice-aggregate-build-2
 slice-aggregate-build-2 c = search needs
 
--- src/lib.rt:130:9
 build-requires : tie.Need-build-requires
 build-requires c κs = search needs
 
--- src/lib.rt:131:17
 slice-aggregate-lend : tie.Need-slice-aggregate-lend
 slice-aggregate-lend c = search needs
 
--- src/lib.rt:131:29
 slice-aggregate-lend-2 : tie.Need-slice-aggregate-lend-2
 slice-aggregate-lend-2 c = search needs
 
--- src/lib.rt:131:5
 lend-requires : tie.Need-lend-requires
 lend-requires c κs = search needs
 
--- src/lib.rt:125:1
 same-length : tie.Need-same-length
 same-length c = search needs
 
--- src/lib.rt:125:1
 same-length-2 : tie.Need-same-length-2
 same-length-2 c = search needs
 
--- src/lib.rt:125:1
 same-length-3 : tie.Need-same-length-3
 same-length-3 c = search needs
 
--- src/lib.rt:125:1
 returns : tie.Need-returns
-returns c = ?
+returns c = c .before .before .before .before .before .before .lend .ensures (c .before .before .before .before .before .before .before .before .before .before .before .before .before .before .before .before .before .before .before .before .before .args .plan .now) (c .before .before .before .before .before .before .before .before .before .before .before .before .before .before .build .ensures) .tries
 
 pub compile-small-spec : {M : Type 1} → statement M
 compile-small-spec =

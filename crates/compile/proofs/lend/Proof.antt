@@ -1,78 +1,101 @@
+-- `lend` meets its contract: each answer, with the tables that it leaves, is a law of `CompileCall` at what was built.
+-- Assumes nothing.
+use Prim.Native.Nat.{ℕ}
+use native.Mathlib.Omega.{arith}
+use mathlib.Core.Path.{_≡_, refl, sym, ap, subst, _∙_}
+use mathlib.Core.List.{List}
 use borrow.Author.Needs.{needs}
+use borrow.Author.Tests.{not-true, not-false}
+use Rattle.compile.specs.Built.{lent, BuiltIs, found-room}
+use Rattle.compile.proofs.CompileCall.{IsMade, made-of, plan-refused, too-short, reaches, written, untouched, lends}
 use Rattle.compile.proofs.lend.Statement.{statement}
 use Rattle.compile.proofs.lend.Tie as tie
-use Rattle.compile.proofs.lend.Reads as reads
-use Rattle.compile.proofs.lend.Lts as lts
-use Rattle.compile.proofs.tables_reach.Reads as tables-reach-reads
-use Rattle.compile.proofs.write_tables.Reads as write-tables-reads
 
--- src/lib.rt:89:24
 enum-known-built : tie.Need-enum-known-built
 enum-known-built c = search needs
 
--- src/lib.rt:90:26
 enum-told : tie.Need-enum-told
 enum-told c = search needs
 
--- src/lib.rt:92:13
 enum-known-built-2 : tie.Need-enum-known-built-2
 enum-known-built-2 c = search needs
 
--- src/lib.rt:98:17
 tables-reach-requires : tie.Need-tables-reach-requires
-tables-reach-requires c κs = ?
+tables-reach-requires c κs =
+    let s = c .before .before .before .before .before .before .before .before .before .before .before in
+    made-of (s .pre .plan) (s .args .built) _ _ (s .pre .is) (c .before .before .before .before .built2 .given .1) .few-transitions
 
--- src/lib.rt:99:17
 same-length : tie.Need-same-length
 same-length c = search needs
 
--- src/lib.rt:99:17
 same-length-2 : tie.Need-same-length-2
 same-length-2 c = search needs
 
--- src/lib.rt:99:17
 same-length-3 : tie.Need-same-length-3
 same-length-3 c = search needs
 
--- src/lib.rt:99:17
 returns : tie.Need-returns
-returns c = ?
+returns c =
+    let s = c .before .before .before .before .before .before .before .before .before .before .before .before .before in
+    let a = s .args in
+    let r = c .before .tables-reach in
+    λ plan b.
+    let w = made-of plan (a .built) _ _ b (c .before .before .before .before .before .before .built2 .given .1) in
+    lends _ (ap found-room (c .before .before .before .before .before .before .built2 .given .1)) refl
+    (too-short plan _ _ _ _ _ _ _ w (lent (a .kinds .now) (a .rows .now) (a .arcs .now)) (sym (r .ensures) ∙ not-true (r .result) (c .if1 .taken)))
 
--- src/lib.rt:107:17
 sub-write-tables : tie.Need-sub-write-tables
-sub-write-tables c = ?
+sub-write-tables c =
+    let s = c .before .before .before .before .before .before .before .before .before .before .before .before .before .before .before .before in
+    let w = made-of (s .pre .plan) (s .args .built) _ _ (s .pre .is) (c .before .before .before .before .before .before .before .before .before .built2 .given .1) in
+    omega (arith, w .parts)
 
--- src/lib.rt:107:17
 sub-write-tables-2 : tie.Need-sub-write-tables-2
-sub-write-tables-2 c = ?
+sub-write-tables-2 c =
+    let s = c .before .before .before .before .before .before .before .before .before .before .before .before .before .before .before .before in
+    let w = made-of (s .pre .plan) (s .args .built) _ _ (s .pre .is) (c .before .before .before .before .before .before .before .before .before .built2 .given .1) in
+    omega (arith, w .parts)
 
--- src/lib.rt:101:13
 write-tables-requires : tie.Need-write-tables-requires
-write-tables-requires c κs = ?
+write-tables-requires c κs =
+    let s = c .before .before .before .before .before .before .before .before .before .before .before .before .before .before .before .before in
+    let a = s .args in
+    let w = made-of (s .pre .plan) (a .built) _ _ (s .pre .is) (c .before .before .before .before .before .before .before .before .before .built2 .given .1) in
+    let r = c .before .before .before .before .tables-reach in
+    let l = reaches (s .pre .plan) _ _ _ _ _ _ _ w (lent (a .kinds .now) (a .rows .now) (a .arcs .now)) (sym (r .ensures) ∙ not-false (r .result) (c .before .before .before .if1 .left)) in
+    ((omega (arith, w .parts, l .0), omega (arith, w .parts, w .few-places)), (l .1, w .room-rows, l .2, w .room-arcs, w .few-transitions))
 
--- src/lib.rt:77:1
 returns-2 : tie.Need-returns-2
-returns-2 c = ?
+returns-2 c =
+    let a = c .before .before .before .before .before .before .before .before .args in
+    λ plan b.
+    lends _ (ap found-room (c .before .built .given .1)) refl
+    (plan-refused plan _ _ (lent (a .kinds .now) (a .rows .now) (a .arcs .now)) (subst (λ x. BuiltIs plan x (a .made-rows .now) (a .made-arcs .now)) (c .before .built .given .1) b))
 
--- src/lib.rt:77:1
 returns-3 : tie.Need-returns-3
-returns-3 c = ?
+returns-3 c =
+    let a = c .before .before .before .before .before .before .before .args in
+    λ plan b. untouched plan (a .built) (lent (a .kinds .now) (a .rows .now) (a .arcs .now)) (ap found-room (c .enum-told .given .1))
 
--- src/lib.rt:77:1
 same-length-4 : tie.Need-same-length-4
 same-length-4 c = search needs
 
--- src/lib.rt:77:1
 same-length-5 : tie.Need-same-length-5
 same-length-5 c = search needs
 
--- src/lib.rt:77:1
 same-length-6 : tie.Need-same-length-6
 same-length-6 c = search needs
 
--- src/lib.rt:77:1
 returns-4 : tie.Need-returns-4
-returns-4 c = ?
+returns-4 c =
+    let s = c .before .before .before .before .before .before .before .before .before .before .before .before .before .before .before .before .before .before .before .before .before .before .before in
+    let a = s .args in
+    let r = c .before .before .before .before .before .before .before .before .before .before .before .tables-reach in
+    let t = c .before .before .before .before .before .before .write-tables in
+    λ plan b.
+    let w = made-of plan (a .built) _ _ b (c .before .before .before .before .before .before .before .before .before .before .before .before .before .before .before .before .built2 .given .1) in
+    lends _ (ap found-room (c .before .before .before .before .before .before .before .before .before .before .before .before .before .before .before .before .built2 .given .1)) refl
+    (written plan _ _ _ _ _ _ _ w (lent (a .kinds .now) (a .rows .now) (a .arcs .now)) (sym (r .ensures) ∙ not-false (r .result) (c .before .before .before .before .before .before .before .before .before .before .if1 .left)) (t .ensures .0) (t .ensures .1 .0) (t .ensures .1 .1))
 
 pub lend-spec : {M : Type 1} → statement M
 lend-spec =

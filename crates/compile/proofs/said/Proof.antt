@@ -1,32 +1,28 @@
+-- `said` meets its contract, case by case.
+-- Assumes nothing.
+use mathlib.Core.Path.{sym, ap}
+use Rattle.compile.specs.Built.{built-says}
 use borrow.Author.Needs.{needs}
 use Rattle.compile.proofs.said.Statement.{statement}
 use Rattle.compile.proofs.said.Tie as tie
-use Rattle.compile.proofs.said.Reads as reads
-use Rattle.compile.proofs.said.Lts as lts
 
--- src/lib.rt:166:24
 enum-known-built : tie.Need-enum-known-built
 enum-known-built c = search needs
 
--- src/lib.rt:167:26
 enum-told : tie.Need-enum-told
 enum-told c = search needs
 
--- src/lib.rt:169:13
 enum-known-built-2 : tie.Need-enum-known-built-2
 enum-known-built-2 c = search needs
 
--- src/lib.rt:162:1
 returns : tie.Need-returns
-returns c = ?
+returns c = sym (ap built-says (c .before .built .given .1))
 
--- src/lib.rt:162:1
 returns-2 : tie.Need-returns-2
-returns-2 c = ?
+returns-2 c = sym (ap built-says (c .enum-told .given .1))
 
--- src/lib.rt:162:1
 returns-3 : tie.Need-returns-3
-returns-3 c = ?
+returns-3 c = sym (ap built-says (c .before .built2 .given .1))
 
 pub said-spec : {M : Type 1} → statement M
 said-spec =

@@ -1,54 +1,47 @@
+-- `make_net` meets its contract: what was put is the net, or the room is short, or the arcs are too many.
+-- A slice keeps its length. Assumes nothing.
+use native.Mathlib.Omega.{arith}
+use mathlib.Core.Path.{refl}
+use mathlib.Core.Logic.{inr}
+use Rattle.compile.proofs.Builds.{too-many, net-made}
 use borrow.Author.Needs.{needs}
 use Rattle.compile.proofs.building.make_net.Statement.{statement}
 use Rattle.compile.proofs.building.make_net.Tie as tie
-use Rattle.compile.proofs.building.make_net.Reads as reads
-use Rattle.compile.proofs.building.make_net.Lts as lts
-use Rattle.compile.proofs.building.told.Reads as told-reads
-use Rattle.compile.proofs.rows.put_transitions.Reads as put-transitions-reads
 
--- src/building.rt:60:9
 put-transitions-requires : tie.Need-put-transitions-requires
 put-transitions-requires c κs = search needs
 
--- src/building.rt:73:9
 told-requires : tie.Need-told-requires
 told-requires c κs = search needs
 
--- src/building.rt:73:9
 same-length : tie.Need-same-length
 same-length c = search needs
 
--- src/building.rt:73:9
 same-length-2 : tie.Need-same-length-2
 same-length-2 c = search needs
 
--- src/building.rt:73:9
 returns : tie.Need-returns
-returns c = ?
+returns c =
+    let s = c .before .before .before .before .before .before .before .before .before .before .before .before .before .before in
+    λ E w. net-made E w (c .before .before .before .before .before .before .put-transitions .ensures E (w .of)) (omega (arith, c .before .before .before .arcs .given)) (s .pre .2) refl (s .pre .3) (c .told .result) (c .told .ensures)
 
--- src/building.rt:76:9
 same-length-3 : tie.Need-same-length-3
 same-length-3 c = search needs
 
--- src/building.rt:76:9
 same-length-4 : tie.Need-same-length-4
 same-length-4 c = search needs
 
--- src/building.rt:76:9
 returns-2 : tie.Need-returns-2
-returns-2 c = ?
+returns-2 c = λ E w. inr (omega arith)
 
--- src/building.rt:45:1
 same-length-5 : tie.Need-same-length-5
 same-length-5 c = search needs
 
--- src/building.rt:45:1
 same-length-6 : tie.Need-same-length-6
 same-length-6 c = search needs
 
--- src/building.rt:45:1
 returns-3 : tie.Need-returns-3
-returns-3 c = ?
+returns-3 c = λ E w. too-many E w (c .before .before .before .before .before .before .put-transitions .ensures E (w .of)) (omega (arith, c .before .before .before .arcs .given)) (omega (arith, c .before .before .before .arcs .given))
 
 pub make-net-spec : {M : Type 1} → statement M
 make-net-spec =

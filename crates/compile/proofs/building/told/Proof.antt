@@ -1,46 +1,43 @@
+-- `told` meets its contract: the three counts as they stand in front.
+-- Assumes nothing.
+use Prim.Native.Nat.{_+_}
+use mathlib.Core.Path.{_∙_}
+use Rattle.compile.specs.Built.{counts}
 use borrow.Author.Needs.{needs}
 use Rattle.compile.proofs.building.told.Statement.{statement}
 use Rattle.compile.proofs.building.told.Tie as tie
-use Rattle.compile.proofs.building.told.Reads as reads
-use Rattle.compile.proofs.building.told.Lts as lts
-use Rattle.plan.proofs.exclusive.number_at.Reads as number-at-reads
-use Rattle.plan.proofs.exclusive.wide.Reads as wide-reads
 
--- src/building.rt:32:24
 number-at-requires : tie.Need-number-at-requires
 number-at-requires c κs = search needs
 
--- src/building.rt:32:9
 wide-requires : tie.Need-wide-requires
 wide-requires c κs = search needs
 
--- src/building.rt:33:26
 number-at-requires-2 : tie.Need-number-at-requires-2
 number-at-requires-2 c κs = search needs
 
--- src/building.rt:33:9
 wide-requires-2 : tie.Need-wide-requires-2
 wide-requires-2 c κs = search needs
 
--- src/building.rt:34:22
 number-at-requires-3 : tie.Need-number-at-requires-3
 number-at-requires-3 c κs = search needs
 
--- src/building.rt:34:9
 wide-requires-3 : tie.Need-wide-requires-3
 wide-requires-3 c κs = search needs
 
--- src/building.rt:36:28
 add-t14 : tie.Need-add-t14
 add-t14 c = search needs
 
--- src/building.rt:36:17
 add-t15 : tie.Need-add-t15
 add-t15 c = search needs
 
--- src/building.rt:29:1
 returns : tie.Need-returns
-returns c = ?
+returns c =
+    let n = c .before .before .before .before .before .before .before .before .before .args in
+    let a = c .before .before .before .before .before .before .wide .ensures .0 ∙ c .before .before .before .before .before .before .before .number-at .ensures in
+    let b = c .before .before .before .wide2 .ensures .0 ∙ c .before .before .before .before .number-at2 .ensures in
+    let d = c .wide3 .ensures .0 ∙ c .before .number-at3 .ensures in
+    λ k. counts (a k + (b k + d k)) (n .transitions) (n .arcs) (a k) (b k)
 
 pub told-spec : {M : Type 1} → statement M
 told-spec =
