@@ -53,7 +53,7 @@ use Rattle.compile.specs.declared.front.Judgement.the-variants.{Refused,
 use Rattle.compile.proofs.Judges.{leb-cut, leb-is-true, leb-is-false, counts-first, accept-judged}
 
 -- ---- the rows and arcs that were put are those of the net
-rows-from-length : (start : ℕ) (ts : List Transition) → length (rows-from start ts) ≡ 6 * length ts
+pub rows-from-length : (start : ℕ) (ts : List Transition) → length (rows-from start ts) ≡ 6 * length ts
 unfolding rows-from
 rows-from-length start [] = refl
 rows-from-length start (t ∷ ts) = omega (arith, rows-from-length (start + (length (t .inputs) + length (t .outputs))) ts)

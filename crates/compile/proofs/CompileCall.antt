@@ -14,12 +14,13 @@ use Rattle.field.specs.Refusals.{table-too-short}
 use Rattle.field.specs.Answer.{Answer, good, refused, _>>=_, _>>_, check}
 use Rattle.field.proofs.Tests.{and-parts, true-T}
 use Rattle.algebra.specs.Expr.{Expr}
-use Rattle.algebra.specs.Net.{Transition, Net, place-count}
+use Rattle.algebra.specs.Net.{Net, place-count}
 use Rattle.algebra.specs.Arcs.{net-of}
 use Rattle.net.specs.Tables.{kinds-of, rows-from, rows-of, arcs-of, tables-of}
 use Rattle.boxes.specs.Compile.{Counts, counts-of, accept, Lent, Compiled, compiled, check-lent, compile-net, compile, over}
 use Rattle.boxes.proofs.CountsCutOff.{size-accepted, net-places}
 use Rattle.boxes.proofs.TablesAreANet.{accepted}
+use Rattle.compile.proofs.Builds.{rows-from-length}
 use Rattle.compile.specs.Built.{counts, NetIs, BuiltIs, lent, Leaves, Same, Tries, Lends, built-says, found-room}
 use Rattle.compile.specs.declared.building.Built.{Built}
 use Rattle.compile.specs.declared.building.Built.the-variants as built
@@ -37,11 +38,6 @@ pub record IsMade (plan : List ℕ) (places transitions count entries internals 
   pub parts : places ≡ entries + (internals + net-of expr .exits)
   pub room-rows : 6 * transitions ≤ length rows
   pub room-arcs : count ≤ length arcs
-
-rows-length : (start : ℕ) (ts : List Transition) → length (rows-from start ts) ≡ 6 * length ts
-unfolding rows-from
-rows-length start [] = refl
-rows-length start (t ∷ ts) = omega (arith, rows-length (start + (length (t .inputs) + length (t .outputs))) ts)
 
 within : (n : ℕ) (l m : List ℕ) → take n l ≡ m → length m ≡ n → n ≤ length l
 within n l m e f = omega (arith, length-take n l, ap length e)
@@ -69,7 +65,7 @@ is-made plan places transitions count entries internals rows arcs w =
       few-transitions = omega (arith, size .1);
       few-arcs = omega (arith, size .2);
       parts = omega arith;
-      room-rows = within (6 * transitions) rows (rows-from 0 (net-of E .transitions)) r (omega (arith, rows-length 0 (net-of E .transitions)));
+      room-rows = within (6 * transitions) rows (rows-from 0 (net-of E .transitions)) r (omega (arith, rows-from-length 0 (net-of E .transitions)));
       room-arcs = within count arcs (arcs-of (net-of E)) s (sym a);
     }
 

@@ -69,7 +69,7 @@ abbrev pub lent : List ℕ → List ℕ → List ℕ → Lent
 lent kinds rows arcs = record { kinds = kinds; rows = rows; arcs = arcs }
 
 -- Some plan was built.
-pub record Holds (b : Built) (rows arcs : List ℕ) : Type 0 where
+pub record Stands (b : Built) (rows arcs : List ℕ) : Type 0 where
   pub plan : List ℕ
   pub is : BuiltIs plan b rows arcs
 

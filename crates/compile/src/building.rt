@@ -9,7 +9,7 @@ ghost use mathlib.Core.Path.{_≡_};
 ghost use Prim.Native.Nat.{_*_, _≤_};
 ghost use lib.ListN.{length};
 ghost use Rattle.algebra.specs.Expr.{Expr};
-ghost use Rattle.compile.specs.Built.{BuiltIs, MadeOf, Told};
+ghost use Rattle.compile.specs.Built.{BuiltIs, MadeOf, Told, found-room};
 ghost use Rattle.compile.specs.Rows.{AskedAll, Whole};
 
 // The first refusal with what it carries; that the room is too short; or the counts of the net that stands in it.
@@ -94,5 +94,22 @@ pub fn build(plan: &[u8], rows: &mut [u16], arcs: &mut [u16]) -> Built
             }
             make_net(&table, nodes, &counts, &list, transitions, rows, arcs)
         }
+    }
+}
+
+// Whether there was room.
+pub fn found_room(built: Built) -> bool
+    ensures { λ r. ⌜ r ≡ found-room built ⌝ }
+{
+    match built {
+        Built::Refused(_, _) => true,
+        Built::NoRoom => false,
+        Built::Made {
+            places: _,
+            transitions: _,
+            arcs: _,
+            entries: _,
+            internals: _,
+        } => true,
     }
 }

@@ -7,6 +7,7 @@ mod rows;
 
 use crate::building::Built;
 use crate::building::build;
+use crate::building::found_room;
 use crate::copying::put;
 use crate::kinds::write_kinds;
 ghost use mathlib.Core.Path.{_≡_};
@@ -17,10 +18,10 @@ ghost use lib.Dec.{leb};
 ghost use lib.ListN.{length, take, drop, replicate};
 ghost use lib.Seq.{sets};
 ghost use Rattle.boxes.specs.Compile as paper;
-ghost use Rattle.compile.specs.Built.{compiling-says, built-says, found-room, BuiltIs, Holds, Lends, Tries, lent};
+ghost use Rattle.compile.specs.Built.{compiling-says, built-says, found-room, BuiltIs, Stands, Lends, Tries, lent};
 
 // A plan of so many bytes is tried in a small room.
-const SMALL_PLAN: usize = 128;
+pub const SMALL_PLAN: usize = 128;
 
 // The counts of the net, or the first refusal with what it carries.
 pub enum Compiling {
@@ -82,7 +83,7 @@ fn lend(
     rows: &mut [u16],
     arcs: &mut [u16],
 ) -> Built
-    requires { ⌜ Holds built (now «made_rows») (now «made_arcs») ⌝ }
+    requires { ⌜ Stands built (now «made_rows») (now «made_arcs») ⌝ }
     ensures { λ r. ⌜ ((plan : List ℕ) → BuiltIs plan built (now («made_rows» .entry)) (now («made_arcs» .entry)) → Lends plan built (lent (now (kinds .entry)) (now (rows .entry)) (now (arcs .entry))) r (now (kinds .exit)) (now (rows .exit)) (now (arcs .exit))) ⌝ }
 {
     match built {
@@ -142,22 +143,6 @@ fn compile_large(plan: &[u8], kinds: &mut [u8], rows: &mut [u16], arcs: &mut [u1
     lend(built, &made_rows, &made_arcs, kinds, rows, arcs)
 }
 
-fn has_room(built: Built) -> bool
-    ensures { λ r. ⌜ r ≡ found-room built ⌝ }
-{
-    match built {
-        Built::Refused(_, _) => true,
-        Built::NoRoom => false,
-        Built::Made {
-            places: _,
-            transitions: _,
-            arcs: _,
-            entries: _,
-            internals: _,
-        } => true,
-    }
-}
-
 // The answer of a try that had room.
 fn said(built: Built) -> Compiling
     ensures { λ r. ⌜ compiling-says r ≡ built-says built ⌝ }
@@ -193,7 +178,7 @@ pub fn compile(plan: &[u8], kinds: &mut [u8], rows: &mut [u16], arcs: &mut [u16]
         return said(compile_large(plan, kinds, rows, arcs));
     }
     let small = compile_small(plan, kinds, rows, arcs);
-    if has_room(small) {
+    if found_room(small) {
         return said(small);
     }
     said(compile_large(plan, kinds, rows, arcs))

@@ -9,29 +9,20 @@ use borrow.Author.Tests.{le-leb, lt-leb}
 use Rattle.field.specs.Limits.{record-limit}
 use Rattle.field.specs.Refusals.{no-marking, record-too-long}
 use Rattle.field.specs.Answer.{Answer, good, refused, _>>=_, _>>_, check}
-use Rattle.field.proofs.Answers.{good-not-refused}
 use Rattle.algebra.specs.Expr.{Expr}
 use Rattle.algebra.specs.Net.{Net, place-count}
 use Rattle.algebra.specs.Arcs.{net-of}
 use Rattle.algebra.specs.Marking.{entry-marking}
 use Rattle.net.specs.Marking.{check-room}
 use Rattle.net.proofs.Marking.{room-passed}
-use Rattle.boxes.specs.Compile.{accept, counts-of}
-use Rattle.compile.specs.Built.{compiling-says, plan-counts}
-use Rattle.compile.specs.declared.Compiling.{Compiling}
-use Rattle.compile.specs.declared.Compiling.the-variants as compiling
+use Rattle.boxes.specs.Compile.{accept}
 use Rattle.step.specs.Form.{read-record, read-steps}
 use Rattle.run.specs.Run.{run}
 use Rattle.run.specs.Says.{ran-says}
 use Rattle.run.specs.declared.Ran.{Ran}
 use Rattle.run.specs.declared.Ran.the-variants.{Refused}
 use Rattle.replay.specs.Replay.{Started, replayed, start, replay}
-use Rattle.replay.specs.OnANet.{start-on, RunIs, ReplayIs}
-
--- What the call is to leave.
-pub record Leaves (plan run-record buffer : List ℕ) (r : Ran) (exit : List ℕ) : Type 0 where
-  pub verdict : ran-says r ≡ replay plan run-record buffer .verdict
-  pub buffer-is : exit ≡ replay plan run-record buffer .buffer
+use Rattle.replay.specs.OnANet.{start-on, RunIs, ReplayIs, Leaves}
 
 -- A run from what is the entry marking.
 pub runs-from-entries : (N : Net) (run-record marking : List ℕ) (r : Ran) (exit : List ℕ) → marking ≡ entry-marking N
@@ -78,16 +69,9 @@ module _ (N : Net) (places : ℕ) (its-places : place-count N ≡ places) (run-r
       (i .verdict) (ap₂ (λ m n. m ++ drop n buffer) (i .marking) (sym its-places))
 
 -- A refused plan.
-pub plan-refused : (plan run-record buffer : List ℕ) (n c : ℕ) (r : Compiling) → compiling-says r ≡ plan-counts plan → r ≡ compiling.Refused n c → Leaves plan run-record buffer (Refused n c 0) buffer
-unfolding plan-counts replay start
-plan-refused plan run-record buffer n c r s e = let a = go (accept plan) refl (sym (ap compiling-says e) ∙ s) in record {
-  verdict = rw a refl;
-  buffer-is = rw a refl;
-}
-  where
-    go : (a : Answer Expr) → accept plan ≡ a → refused n c ≡ (a >>= λ E. good (counts-of (net-of E))) → accept plan ≡ refused n c
-    go (good E) p f = good-not-refused _ _ n c refl (sym f)
-    go (refused m d) p f = let x : n ≡ m = cc in let y : c ≡ d = cc in p ∙ (λ k. refused (sym x k) (sym y k))
+pub plan-refused : (plan run-record buffer : List ℕ) (n c : ℕ) → accept plan ≡ refused n c → Leaves plan run-record buffer (Refused n c 0) buffer
+unfolding replay start
+plan-refused plan run-record buffer n c a = record { verdict = rw a refl; buffer-is = rw a refl }
 
 -- A plan whose net was made.
 pub plan-made : (plan run-record buffer : List ℕ) (E : Expr) → accept plan ≡ good E → (r : Ran) (exit : List ℕ) → ReplayIs (net-of E) run-record buffer r exit → Leaves plan run-record buffer r exit

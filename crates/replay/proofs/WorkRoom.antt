@@ -40,11 +40,11 @@ module _ (plan : List ℕ) (places transitions count entries internals : ℕ) (r
 
   transitions-are : length (N .transitions) ≡ transitions
   unfolding counts-of tables-of
-  transitions-are = ap (λ z. z .transitions) (sym (w .counts))
+  transitions-are = ap (λ z. z .transitions) (sym (w .told))
 
   places-are : place-count N ≡ places
   unfolding counts-of tables-of
-  places-are = ap (λ z. z .places) (sym (w .counts))
+  places-are = ap (λ z. z .places) (sym (w .told))
 
   work-is-a-net : is-net (lent-tables N [] more-rows more-arcs) ≡ true
   unfolding check-net
@@ -61,8 +61,8 @@ module _ (plan : List ℕ) (places transitions count entries internals : ℕ) (r
     its-transitions = sym (lent-tables-are-the-net plan (w .expr) (w .accepts) [] more-rows more-arcs) ∙ transitions-lent (lent-tables N [] more-rows more-arcs)
         ∙ (λ i. transitions-within (rows-front i) (arcs-front i) (transitions-are i));
     its-places = places-are;
-    its-entries = ap (λ z. z .entries) (sym (w .counts));
-    its-internals = ap (λ z. z .internals) (sym (w .counts));
+    its-entries = ap (λ z. z .entries) (sym (w .told));
+    its-internals = ap (λ z. z .internals) (sym (w .told));
   }
 
   pub work-exits : entries + internals ≤ places

@@ -12,7 +12,7 @@ use Rattle.step.specs.Naming.{transitions-within}
 use Rattle.run.specs.Run.{run}
 use Rattle.run.specs.Says.{ran-says}
 use Rattle.run.specs.declared.Ran.{Ran}
-use Rattle.replay.specs.Replay.{Started, replayed}
+use Rattle.replay.specs.Replay.{Started, replayed, replay}
 
 -- What is left of `start` behind the plan.
 abbrev pub start-on : Net → List ℕ → List ℕ → Answer Started
@@ -34,3 +34,8 @@ pub record RunIs (N : Net) (run-record : List ℕ) (r : Ran) (exit : List ℕ) :
 pub record ReplayIs (N : Net) (run-record buffer : List ℕ) (r : Ran) (exit : List ℕ) : Type 0 where
   pub verdict : ran-says r ≡ replayed buffer (start-on N run-record buffer) .verdict
   pub buffer-is : exit ≡ replayed buffer (start-on N run-record buffer) .buffer
+
+-- The answer and the whole buffer are the paper's.
+pub record Leaves (plan run-record buffer : List ℕ) (r : Ran) (exit : List ℕ) : Type 0 where
+  pub verdict : ran-says r ≡ replay plan run-record buffer .verdict
+  pub buffer-is : exit ≡ replay plan run-record buffer .buffer

@@ -1,15 +1,19 @@
 // 01: "Replay takes plan, record and marking buffer: 1 to 13, then 35 (short only), then 20, before anything is written and with 0 steps told."
 ghost use mathlib.Core.Path.{_≡_};
-ghost use mathlib.Core.List.{_++_};
-ghost use Prim.Native.Nat.{_+_, _-_, _≤_};
+ghost use mathlib.Core.Bool.{true};
+ghost use mathlib.Core.List.{List, _++_};
+ghost use Prim.Native.Nat.{ℕ, _+_, _-_, _≤_};
 ghost use lib.ListN.{length, replicate};
 ghost use Rattle.algebra.specs.Net.{Net};
 ghost use Rattle.step.specs.Naming.{InOrder};
 ghost use Rattle.run.specs.Says.{ran-says};
 ghost use Rattle.replay.specs.Replay;
-ghost use Rattle.replay.specs.OnANet.{Holds, RunIs, ReplayIs};
-use compile::Compiling;
+ghost use Rattle.compile.specs.Built.{BuiltIs, Stands, found-room};
+ghost use Rattle.replay.specs.OnANet.{Holds, RunIs, ReplayIs, Leaves};
+use compile::SMALL_PLAN;
+use compile::building::Built;
 use compile::building::build;
+use compile::building::found_room;
 use compile::kinds::write_run;
 use net::tokens::has_room;
 use run::Ran;
@@ -52,8 +56,8 @@ fn run_from_entries(
 
 // "35 (short only), then 20, before anything is written", then the run. What lies behind the net's part is neither looked at nor written.
 fn replay_net(
-    rows: &[u16; 6144],
-    arcs: &[u16; 16384],
+    rows: &[u16],
+    arcs: &[u16],
     places: usize,
     transitions: usize,
     entries: usize,
@@ -82,16 +86,15 @@ fn replay_net(
     )
 }
 
-// The whole call. The net is made once, in the library's own work room.
-pub fn replay(plan: &[u8], record: &[u8], marking: &mut [u8]) -> Ran
-    ensures verdict { λ r. ⌜ ran-says r ≡ Replay.replay (now (plan .entry)) (now («record» .entry)) (now (marking .entry)) .verdict ⌝ }
-    ensures buffer { λ r. ⌜ now (marking .exit) ≡ Replay.replay (now (plan .entry)) (now («record» .entry)) (now (marking .entry)) .buffer ⌝ }
+// What was built is replayed; a refused plan is refused with 0 steps told.
+fn replay_built(built: Built, rows: &[u16], arcs: &[u16], record: &[u8], marking: &mut [u8]) -> Ran
+    requires { ⌜ Stands built (now rows) (now arcs) ⌝ }
+    ensures { λ r. ⌜ ((plan : List ℕ) → BuiltIs plan built (now (rows .entry)) (now (arcs .entry)) → found-room built ≡ true → Leaves plan (now («record» .entry)) (now (marking .entry)) r (now (marking .exit))) ⌝ }
 {
-    let mut rows = compile::no_rows();
-    let mut arcs = compile::no_arcs();
-    match build(plan, &mut rows, &mut arcs) {
-        Compiling::Refused(number, carried) => Ran::Refused(number, carried, 0),
-        Compiling::Made {
+    match built {
+        Built::Refused(number, carried) => Ran::Refused(number, carried, 0),
+        Built::NoRoom => Ran::Refused(field::TOO_MANY_ARCS, 0, 0),
+        Built::Made {
             places,
             transitions,
             arcs: _,
@@ -99,8 +102,8 @@ pub fn replay(plan: &[u8], record: &[u8], marking: &mut [u8]) -> Ran
             internals,
         } => {
             replay_net(
-                &rows,
-                &arcs,
+                rows,
+                arcs,
                 places,
                 transitions,
                 entries,
@@ -110,4 +113,31 @@ pub fn replay(plan: &[u8], record: &[u8], marking: &mut [u8]) -> Ran
             )
         }
     }
+}
+
+// In room for any net.
+fn replay_large(plan: &[u8], record: &[u8], marking: &mut [u8]) -> Ran
+    ensures { λ r. ⌜ Leaves (now (plan .entry)) (now («record» .entry)) (now (marking .entry)) r (now (marking .exit)) ⌝ }
+{
+    let mut rows = [0u16; 6144];
+    let mut arcs = [0u16; 16384];
+    let built = build(plan, &mut rows, &mut arcs);
+    replay_built(built, &rows, &arcs, record, marking)
+}
+
+// The whole call. The net is made once, in the library's own work room; a small plan's is tried in a small room first.
+pub fn replay(plan: &[u8], record: &[u8], marking: &mut [u8]) -> Ran
+    ensures verdict { λ r. ⌜ ran-says r ≡ Replay.replay (now (plan .entry)) (now («record» .entry)) (now (marking .entry)) .verdict ⌝ }
+    ensures buffer { λ r. ⌜ now (marking .exit) ≡ Replay.replay (now (plan .entry)) (now («record» .entry)) (now (marking .entry)) .buffer ⌝ }
+{
+    if SMALL_PLAN < plan.len() {
+        return replay_large(plan, record, marking);
+    }
+    let mut rows = [0u16; 384];
+    let mut arcs = [0u16; 1024];
+    let built = build(plan, &mut rows, &mut arcs);
+    if found_room(built) {
+        return replay_built(built, &rows, &arcs, record, marking);
+    }
+    replay_large(plan, record, marking)
 }

@@ -30,8 +30,8 @@ returns c =
 compile-small-requires : tie.Need-compile-small-requires
 compile-small-requires c κs = search needs
 
-has-room-requires : tie.Need-has-room-requires
-has-room-requires c κs = search needs
+found-room-requires : tie.Need-found-room-requires
+found-room-requires c κs = search needs
 
 said-requires-2 : tie.Need-said-requires-2
 said-requires-2 c κs = search needs
@@ -47,7 +47,7 @@ same-length-6 c = search needs
 
 returns-2 : tie.Need-returns-2
 returns-2 c =
-    let l = c .before .before .before .before .before .before .before .before .before .compile-small .ensures .does (sym (c .before .before .has-room .ensures) ∙ c .before .if2 .taken) in
+    let l = c .before .before .before .before .before .before .before .before .before .compile-small .ensures .does (sym (c .before .before .found-room .ensures) ∙ c .before .if2 .taken) in
     (c .said2 .ensures ∙ l .says, (l .kinds-are, (l .rows-are, l .arcs-are)))
 
 compile-large-requires-2 : tie.Need-compile-large-requires-2
@@ -68,7 +68,7 @@ same-length-9 c = search needs
 returns-3 : tie.Need-returns-3
 returns-3 c =
     let a = c .before .before .before .before .before .before .before .before .before .before .before .before .before .before .before .before .before .before .before .before .before .before .before .before .before .before .before .before .args in
-    let same = c .before .before .before .before .before .before .before .before .before .before .before .before .before .before .before .before .before .before .before .compile-small .ensures .no-room (sym (c .before .before .before .before .before .before .before .before .before .before .before .before .has-room .ensures) ∙ c .before .before .before .before .before .before .before .before .before .before .before .if2 .left) in
+    let same = c .before .before .before .before .before .before .before .before .before .before .before .before .before .before .before .before .before .before .before .compile-small .ensures .no-room (sym (c .before .before .before .before .before .before .before .before .before .before .before .before .found-room .ensures) ∙ c .before .before .before .before .before .before .before .before .before .before .before .if2 .left) in
     let t = c .before .before .before .before .before .before .before .compile-large2 .ensures in
     let l = after-try (a .plan .now) (a .kinds .now) (a .rows .now) (a .arcs .now) _ _ _ same (t .0 .does (t .1)) in
     (c .said3 .ensures ∙ l .says, (l .kinds-are, (l .rows-are, l .arcs-are)))
@@ -84,7 +84,7 @@ compile-spec =
     same-length-3
     returns
     compile-small-requires
-    has-room-requires
+    found-room-requires
     said-requires-2
     same-length-4
     same-length-5

@@ -1,68 +1,73 @@
--- `replay`: a refused plan is refused, and of an accepted one the net that stands in the work room is replayed.
-use Prim.Native.Nat.{ℕ}
+-- `replay`: in a small room if that is enough, and else in room for any net.
+-- Assumes nothing.
+use mathlib.Core.Path.{sym, _∙_}
 use borrow.Author.Needs.{needs}
-use Rattle.compile.proofs.CompileCall.{IsMade, is-made}
-use Rattle.replay.proofs.WorkRoom.{work-in-order, work-holds, work-exits}
-use Rattle.replay.proofs.ReplayCall.{plan-refused, plan-made}
 use Rattle.replay.proofs.replay.Statement.{statement}
 use Rattle.replay.proofs.replay.Tie as tie
-use Rattle.replay.proofs.replay.Reads as reads
-use Rattle.replay.proofs.replay.Lts as lts
-use Rattle.compile.proofs.building.build.Reads as build-reads
-use Rattle.compile.proofs.no_arcs.Reads as no-arcs-reads
-use Rattle.compile.proofs.no_rows.Reads as no-rows-reads
-use Rattle.replay.proofs.replay_net.Reads as replay-net-reads
 
--- where the counts of a net are known
-abbrev Known : Type 0
-Known = lts.After-places (no-rows-reads.Asked, no-rows-reads.Learnt, no-arcs-reads.Asked, no-arcs-reads.Learnt, build-reads.Asked, build-reads.Learnt, replay-net-reads.Asked, replay-net-reads.Learnt) reads.Pre reads.Post
+replay-large-requires : tie.Need-replay-large-requires
+replay-large-requires c κs = search needs
 
-abbrev places : Known → ℕ
-places c = c .places .given .0 .0
+same-length : tie.Need-same-length
+same-length c = search needs
 
-abbrev transitions : Known → ℕ
-transitions c = c .places .given .0 .1 .0
+returns : tie.Need-returns
+returns c = search needs
 
-abbrev count : Known → ℕ
-count c = c .places .given .0 .1 .1 .0
+slice-aggregate-build : tie.Need-slice-aggregate-build
+slice-aggregate-build c = search needs
 
-abbrev entries : Known → ℕ
-entries c = c .places .given .0 .1 .1 .1 .0
+slice-aggregate-build-2 : tie.Need-slice-aggregate-build-2
+slice-aggregate-build-2 c = search needs
 
-abbrev internals : Known → ℕ
-internals c = c .places .given .0 .1 .1 .1 .1 .0
+build-requires : tie.Need-build-requires
+build-requires c κs = search needs
 
-net-made : (c : Known) → IsMade (c .before .before .before .before .before .before .before .before .before .before .args .plan .now) (places c) (transitions c) (count c) (entries c) (internals c) (c .before .before .build .last .1 .0) (c .before .before .build .last .1 .1 .0)
-net-made c =
-    let b = c .before .before .build in
-    is-made (c .before .before .before .before .before .before .before .before .before .before .args .plan .now) (places c) (transitions c) (count c) (entries c) (internals c) (b .last .1 .0) (b .last .1 .1 .0) (b .result) (b .ensures .0) (b .ensures .1) (c .places .given .1)
+found-room-requires : tie.Need-found-room-requires
+found-room-requires c κs = search needs
+
+slice-aggregate-replay-built : tie.Need-slice-aggregate-replay-built
+slice-aggregate-replay-built c = search needs
+
+slice-aggregate-replay-built-2 : tie.Need-slice-aggregate-replay-built-2
+slice-aggregate-replay-built-2 c = search needs
+
+replay-built-requires : tie.Need-replay-built-requires
+replay-built-requires c κs = search needs
+
+same-length-2 : tie.Need-same-length-2
+same-length-2 c = search needs
+
+returns-2 : tie.Need-returns-2
+returns-2 c =
+    let l = c .before .before .replay-built .ensures (c .before .before .before .before .before .before .before .before .before .before .before .before .before .before .before .before .before .args .plan .now) (c .before .before .before .before .before .before .before .before .before .before .build .ensures) (sym (c .before .before .before .before .before .before .before .found-room .ensures) ∙ c .before .before .before .before .before .before .if2 .taken) in
+    (l .verdict, l .buffer-is)
+
+replay-large-requires-2 : tie.Need-replay-large-requires-2
+replay-large-requires-2 c κs = search needs
+
+same-length-3 : tie.Need-same-length-3
+same-length-3 c = search needs
+
+returns-3 : tie.Need-returns-3
+returns-3 c = search needs
 
 pub replay-spec : {M : Type 1} → statement M
 replay-spec =
     tie.close
     (tie.spec
-    (λ c κs. search needs)
-    (λ c κs. search needs)
-    (λ c κs. search needs)
-    (λ c. search needs)
-    (λ c. search needs)
-    (λ c κs.
-    let k = c .before .before .before .before in
-    let b = c .before .before .before .before .before .before .build in (
-      work-in-order (c .before .before .before .before .before .before .before .before .before .before .before .before .before .before .args .plan .now) (places k) (transitions k) (count k) (entries k) (internals k) (b .last .1 .0) (b .last .1 .1 .0) (net-made k),
-      work-exits (c .before .before .before .before .before .before .before .before .before .before .before .before .before .before .args .plan .now) (places k) (transitions k) (count k) (entries k) (internals k) (b .last .1 .0) (b .last .1 .1 .0) (net-made k),
-    ))
-    (λ c.
-    let a = c .before .before .before .before .before .before .before .before .before .before .before .args in
-    let b = c .before .before .before .build in
-    let l = plan-refused (a .plan .now) (a .«record» .now) (a .marking .now) _ _ (b .result) (b .ensures .0) (c .before .number .given .1) in
-    (l .verdict, l .buffer-is))
-    (λ c. search needs)
-    (λ c.
-    let a = c .before .before .before .before .before .before .before .before .before .before .before .before .before .before .before .before .before .args in
-    let k = c .before .before .before .before .before .before .before in
-    let b = c .before .before .before .before .before .before .before .before .before .build in
-    let q = c .before .before .replay-net in
-    let h = work-holds (a .plan .now) (places k) (transitions k) (count k) (entries k) (internals k) (b .last .1 .0) (b .last .1 .1 .0) (net-made k) in
-    let l = plan-made (a .plan .now) (a .«record» .now) (a .marking .now) (net-made k .expr) (net-made k .accepts) (q .result) _ (q .ensures _ h) in
-    (l .verdict, l .buffer-is)))
+    replay-large-requires
+    same-length
+    returns
+    slice-aggregate-build
+    slice-aggregate-build-2
+    build-requires
+    found-room-requires
+    slice-aggregate-replay-built
+    slice-aggregate-replay-built-2
+    replay-built-requires
+    same-length-2
+    returns-2
+    replay-large-requires-2
+    same-length-3
+    returns-3)
