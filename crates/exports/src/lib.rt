@@ -1,0 +1,86 @@
+// The library's calls for C and Rust. Each tells its answer as numbers at the front of a lent array: 01's number of a refusal and what it
+// carries, both 0 where there is none, and then what the call answers. A call whose array is too short answers false and touches nothing.
+ghost use mathlib.Core.Path.{_≡_};
+ghost use mathlib.Core.Bool.{cond};
+ghost use mathlib.Core.List.{[], _∷_};
+ghost use Prim.Native.Nat.{_≤_};
+ghost use lib.ListN.{length};
+ghost use lib.Dec.{leb};
+ghost use Rattle.net.specs.Lent.{lent};
+ghost use Rattle.step.specs.Fire;
+ghost use Rattle.step.specs.Enabled;
+ghost use Rattle.exports.specs.Told.{told, fire-tells, enabled-tells};
+use step::Enabling;
+use step::Fired;
+
+fn tell_two(answer: &mut [usize], number: usize, carried: usize)
+    requires { ⌜ 2 ≤ length (now answer) ⌝ }
+    ensures { λ _. ⌜ now (answer .exit) ≡ told (number ∷ carried ∷ []) (now (answer .entry)) ⌝ }
+{
+    answer[0] = number;
+    answer[1] = carried;
+}
+
+fn tell_three(answer: &mut [usize], number: usize, carried: usize, many: usize)
+    requires { ⌜ 3 ≤ length (now answer) ⌝ }
+    ensures { λ _. ⌜ now (answer .exit) ≡ told (number ∷ carried ∷ many ∷ []) (now (answer .entry)) ⌝ }
+{
+    answer[0] = number;
+    answer[1] = carried;
+    answer[2] = many;
+}
+
+// Fires one step field at a marking. Two numbers: refusal, carried.
+#[no_mangle]
+pub extern "C" fn fuuqidhel_fire(
+    kinds: &[u8],
+    rows: &[u16],
+    arcs: &[u16],
+    places: usize,
+    transitions: usize,
+    arc_count: usize,
+    marking: &mut [u8],
+    step: &[u8],
+    answer: &mut [usize],
+) -> bool
+    ensures room { λ r. ⌜ r ≡ leb 2 (length (now (answer .entry))) ⌝ }
+    ensures answer { λ r. ⌜ now (answer .exit) ≡ cond r (told (fire-tells (Fire.fire (lent (now (kinds .entry)) (now (rows .entry)) (now (arcs .entry)) places transitions «arc_count») (now (marking .entry)) (now (step .entry)) .answer)) (now (answer .entry))) (now (answer .entry)) ⌝ }
+    ensures marking { λ r. ⌜ now (marking .exit) ≡ cond r (Fire.fire (lent (now (kinds .entry)) (now (rows .entry)) (now (arcs .entry)) places transitions «arc_count») (now (marking .entry)) (now (step .entry)) .marking) (now (marking .entry)) ⌝ }
+{
+    if answer.len() < 2 {
+        return false;
+    }
+    match step::fire(kinds, rows, arcs, places, transitions, arc_count, marking, step) {
+        Fired::Done => tell_two(answer, 0, 0),
+        Fired::Refused(number, carried) => tell_two(answer, number, carried),
+    }
+    true
+}
+
+// Lists the enabled transitions. Three numbers: refusal, carried, how many; a list of none is 01's stuck.
+#[no_mangle]
+pub extern "C" fn fuuqidhel_enabled(
+    kinds: &[u8],
+    rows: &[u16],
+    arcs: &[u16],
+    places: usize,
+    transitions: usize,
+    arc_count: usize,
+    marking: &[u8],
+    list: &mut [u16],
+    answer: &mut [usize],
+) -> bool
+    ensures room { λ r. ⌜ r ≡ leb 3 (length (now (answer .entry))) ⌝ }
+    ensures answer { λ r. ⌜ now (answer .exit) ≡ cond r (told (enabled-tells (Enabled.enabled (lent (now (kinds .entry)) (now (rows .entry)) (now (arcs .entry)) places transitions «arc_count») (now (marking .entry)) (now (list .entry)) .answer)) (now (answer .entry))) (now (answer .entry)) ⌝ }
+    ensures list { λ r. ⌜ now (list .exit) ≡ cond r (Enabled.enabled (lent (now (kinds .entry)) (now (rows .entry)) (now (arcs .entry)) places transitions «arc_count») (now (marking .entry)) (now (list .entry)) .list) (now (list .entry)) ⌝ }
+{
+    if answer.len() < 3 {
+        return false;
+    }
+    match step::enabled(kinds, rows, arcs, places, transitions, arc_count, marking, list) {
+        Enabling::Many(many) => tell_three(answer, 0, 0, many),
+        Enabling::Stuck => tell_three(answer, 0, 0, 0),
+        Enabling::Refused(number, carried) => tell_three(answer, number, carried, 0),
+    }
+    true
+}
