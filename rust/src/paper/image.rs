@@ -61,17 +61,32 @@ impl Image {
         self.dims[..self.free].iter().map(|dim| usize::from(dim.0)).product()
     }
 
-    /// Adds the places that hold the list's first place to `places`, rising.
-    pub fn write(&self, places: &mut Vec<u16>) {
-        let from = places.len();
-        places.push(self.base as u16);
+    /// Writes the places that hold the list's first place to the front of
+    /// `places`, rising, and answers how many there are.
+    pub fn write(&self, places: &mut [u16]) -> usize {
+        places[0] = self.base as u16;
+        let mut filled = 1;
         for &(count, stride) in &self.dims[..self.free] {
-            let to = places.len();
-            for turn in 1..count {
-                for spot in from..to {
-                    places.push(places[spot] + turn * stride);
+            let end = filled * usize::from(count);
+            let places = &mut places[..end];
+            if filled == 1 {
+                let mut next = places[0];
+                for place in &mut places[1..] {
+                    next += stride;
+                    *place = next;
+                }
+            } else {
+                let (done, rest) = places.split_at_mut(filled);
+                let mut shift = 0;
+                for block in rest.chunks_exact_mut(filled) {
+                    shift += stride;
+                    for (to, from) in block.iter_mut().zip(&*done) {
+                        *to = from + shift;
+                    }
                 }
             }
+            filled = end;
         }
+        filled
     }
 }

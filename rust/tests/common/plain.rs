@@ -3,9 +3,9 @@
 
 use std::collections::{BTreeMap, BTreeSet};
 
-use plans::net::Net;
-use plans::plan::Expr;
-use plans::record::Item;
+use fuuqidhel::paper::expr::Expr;
+use fuuqidhel::paper::record::Item;
+use fuuqidhel::{Net, Reason, Refused};
 
 #[derive(Clone, Debug, PartialEq, Eq)]
 pub struct Moved {
@@ -218,7 +218,6 @@ pub fn tables(plain: &Plain) -> Net {
     let mut net = Net {
         entries: plain.entries.len(),
         internals: plain.internals.len(),
-        exits: plain.exits.len(),
         kinds: vec![],
         rows: vec![],
         arcs: vec![],
@@ -236,25 +235,39 @@ pub fn tables(plain: &Plain) -> Net {
     net
 }
 
-/// Fires items with counted tokens: the tokens after, or number and carried.
-pub fn fire(transitions: &[Moved], items: &[Item], tokens: &[u8]) -> Result<Vec<u8>, (u8, usize)> {
+/// The transitions of tables, spelt out.
+pub fn moved(net: &Net) -> Vec<Moved> {
+    let set = |places: &[u16]| places.iter().map(|place| usize::from(*place)).collect();
+    net.transitions()
+        .map(|t| Moved {
+            label: t.label,
+            first: t.first,
+            second: t.second,
+            inputs: set(t.inputs),
+            outputs: set(t.outputs),
+        })
+        .collect()
+}
+
+/// Fires items with counted tokens.
+pub fn fire(transitions: &[Moved], items: &[Item], tokens: &[u8]) -> Result<Vec<u8>, Refused> {
     let mut named = vec![];
     for (position, item) in items.iter().enumerate() {
         let second = item.second.map_or(65_535, u16::from);
         let found = transitions
             .iter()
             .find(|moved| moved.first == u16::from(item.first) && moved.second == second);
-        named.push(found.ok_or((31, position))?);
+        named.push(found.ok_or(Refused::at(Reason::NoTransition, position))?);
     }
     for (position, moved) in named.iter().enumerate() {
         if moved.inputs.iter().any(|place| tokens[*place] == 0) {
-            return Err((32, position));
+            return Err(Refused::at(Reason::InputEmpty, position));
         }
     }
     for (position, moved) in named.iter().enumerate() {
         let earlier = &named[..position];
         if earlier.iter().any(|other| !other.inputs.is_disjoint(&moved.inputs)) {
-            return Err((33, position));
+            return Err(Refused::at(Reason::InputShared, position));
         }
     }
     let mut after = tokens.to_vec();
@@ -265,7 +278,7 @@ pub fn fire(transitions: &[Moved], items: &[Item], tokens: &[u8]) -> Result<Vec<
         moved.outputs.iter().for_each(|place| after[*place] += 1);
     }
     if after.iter().any(|token| *token > 1) {
-        return Err((36, 0));
+        return Err(Refused::plain(Reason::TwoTokens));
     }
     Ok(after)
 }

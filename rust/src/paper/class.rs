@@ -3,9 +3,9 @@
 
 use std::collections::HashSet;
 
-use crate::calculus::{lone, split, unjoined, Derived};
-use crate::plan::Expr;
-use crate::record::{Item, Step};
+use super::calculus::{lone, split, unjoined, Derived};
+use super::expr::Expr;
+use super::record::{Item, Step};
 
 /// A dynamic expression, read along its expression.
 #[derive(Clone, Debug, PartialEq, Eq, Hash)]

@@ -5,8 +5,8 @@
 //! derived by the rules; a parallel joins the steps of its sides, a scope
 //! joins pairs, and a lone a or a+128 blocks under it.
 
-use crate::plan::Expr;
-use crate::record::{Item, Step};
+use super::expr::Expr;
+use super::record::{Item, Step};
 
 /// A dynamic expression in normal form, read along its expression.
 #[derive(Clone, Debug, PartialEq, Eq, Hash)]

@@ -1,0 +1,93 @@
+//! The proved library: its calls on lent slices, and [`Net`]'s methods over
+//! them. No call panics, whatever it is lent, and none allocates but `Net`'s.
+
+#[allow(unsafe_code)]
+mod raw;
+
+use crate::answer::{Enabled, Reason, Refused};
+#[cfg(feature = "whole")]
+use crate::answer::{Replayed, Stopped};
+#[cfg(feature = "whole")]
+use crate::limit;
+#[cfg(feature = "whole")]
+use crate::tables::{Counts, Made, ROW};
+use crate::tables::{Net, Tables};
+
+/// Compiles a plan into the lent tables, six numbers in `rows` for each
+/// transition. Nothing is written on refusal, nor past the net's part.
+#[cfg(feature = "whole")]
+pub fn compile(
+    plan: &[u8],
+    kinds: &mut [u8],
+    rows: &mut [u16],
+    arcs: &mut [u16],
+) -> Result<Made, Refused> {
+    let [number, carried, places, transitions, arcs, entries, internals] =
+        raw::compile(plan, kinds, rows, arcs);
+    accepted(number, carried)?;
+    Ok(Made { counts: Counts { places, transitions, arcs }, entries, internals })
+}
+
+/// Fires one step field at a marking. Nothing is written on refusal, nor past
+/// the net's part.
+pub fn fire(tables: Tables<'_>, step: &[u8], marking: &mut [u8]) -> Result<(), Refused> {
+    let [number, carried] = raw::fire(tables, step, marking);
+    accepted(number, carried)
+}
+
+/// Writes the numbers of the enabled transitions to the front of `list`,
+/// rising. Nothing is written on refusal, nor behind the list.
+pub fn enabled(tables: Tables<'_>, marking: &[u8], list: &mut [u16]) -> Result<Enabled, Refused> {
+    let [number, carried, count] = raw::enabled(tables, marking, list);
+    accepted(number, carried)?;
+    Ok(if count == 0 { Enabled::Stuck } else { Enabled::Many(count) })
+}
+
+/// Replays a record from a plan's entry marking. The marking afterwards is the
+/// one after the accepted steps; what it held before does not matter, and it
+/// stays as it was where the plan, the marking's length or the record's length
+/// is refused.
+#[cfg(feature = "whole")]
+pub fn replay(plan: &[u8], record: &[u8], marking: &mut [u8]) -> Result<Replayed, Stopped> {
+    let [number, carried, steps, finished] = raw::replay(plan, record, marking);
+    accepted(number, carried).map_err(|refused| Stopped { refused, steps })?;
+    Ok(Replayed { steps, finished: finished == 1 })
+}
+
+/// The refusal of a number that is not 0.
+fn accepted(number: usize, carried: usize) -> Result<(), Refused> {
+    if number == 0 {
+        return Ok(());
+    }
+    let reason = Reason::of(number).expect("the library gives numbers of the paper's table");
+    Err(Refused { reason, carried })
+}
+
+/// Calls of the library on the net's own tables.
+impl Net {
+    /// Compiles a plan.
+    #[cfg(feature = "whole")]
+    pub fn compile(plan: &[u8]) -> Result<Net, Refused> {
+        let mut kinds = vec![0; limit::PLACES];
+        let mut rows = vec![0; limit::TRANSITIONS * ROW];
+        let mut arcs = vec![0; limit::ARCS];
+        let Made { counts, entries, internals } = compile(plan, &mut kinds, &mut rows, &mut arcs)?;
+        kinds.truncate(counts.places);
+        rows.truncate(counts.transitions * ROW);
+        arcs.truncate(counts.arcs);
+        Ok(Net { entries, internals, kinds, rows, arcs })
+    }
+
+    /// Fires one step field at a marking, which stays as it was on refusal.
+    pub fn fire(&self, step: &[u8], marking: &mut [u8]) -> Result<(), Refused> {
+        fire(self.tables(), step, marking)
+    }
+
+    /// The numbers of the enabled transitions, rising; none where it is stuck.
+    pub fn enabled(&self, marking: &[u8]) -> Result<Vec<u16>, Refused> {
+        let mut list = vec![0; self.counts().transitions];
+        let count = enabled(self.tables(), marking, &mut list)?.count();
+        list.truncate(count);
+        Ok(list)
+    }
+}
