@@ -1,6 +1,8 @@
 //! Check 30, that lent tables are a net; check 35, that a marking is one; and
 //! the transitions by action.
 
+use std::cmp::Ordering;
+
 use super::record::Item;
 use crate::answer::{Reason, Refused};
 use crate::limit;
@@ -65,83 +67,98 @@ fn in_order(kinds: &[u8]) -> bool {
 }
 
 /// Whether a list is not empty, strictly rises and stays below `places`.
+#[inline]
 fn rises(list: &[u16], places: usize) -> bool {
     match list {
         [] => false,
         [only] => usize::from(*only) < places,
+        [first, second] => first < second && usize::from(*second) < places,
         [.., last] => {
             let rising =
                 list.iter().zip(&list[1..]).fold(true, |so_far, (one, next)| so_far & (one < next));
-            usize::from(*last) < places && rising
+            rising && usize::from(*last) < places
         }
     }
 }
 
 /// The transitions by first action: at most one with that action alone, and
-/// those that join it with another, by the other.
+/// those that join it with another.
 #[derive(Clone, Debug)]
 pub struct Index {
     alone: [u16; limit::ACTIONS],
-    /// Where the joined ones of each first action start in `joined`.
-    from: [u16; limit::ACTIONS + 1],
-    /// Second action and number.
-    joined: Vec<(u16, u16)>,
+    /// The first joined one and how many, where those of every first action
+    /// stand together by rising second action, as in a plan's net.
+    joined: [(u16, u16); limit::ACTIONS],
+    /// Else all joined ones in order: first action, second action, number.
+    scattered: Vec<(u16, u16, u16)>,
 }
 
 impl Index {
     /// The index of rows whose actions are in range, or none where two
     /// transitions have the same action pair.
     pub fn of(rows: &[u16]) -> Option<Index> {
-        let mut alone = [NONE; limit::ACTIONS];
-        let mut from = [0u16; limit::ACTIONS + 1];
-        let mut pairs = 0;
-        for (number, row) in rows.chunks_exact(ROW).enumerate() {
+        let mut index = Index {
+            alone: [NONE; limit::ACTIONS],
+            joined: [(0, 0); limit::ACTIONS],
+            scattered: Vec::new(),
+        };
+        let mut together = true;
+        let mut before = 0;
+        for (number, row) in (0..).zip(rows.chunks_exact(ROW)) {
             let first = usize::from(row[1]);
-            if row[2] != NONE {
-                from[first + 1] += 1;
-                pairs += 1;
-            } else if alone[first] == NONE {
-                alone[first] = number as u16;
+            if row[2] == NONE {
+                if index.alone[first] != NONE {
+                    return None;
+                }
+                index.alone[first] = number;
             } else {
+                let (start, count) = &mut index.joined[first];
+                if *count == 0 {
+                    *start = number;
+                } else {
+                    together &= *start + *count == number && before < row[2];
+                }
+                *count += 1;
+                before = row[2];
+            }
+        }
+        if !together {
+            let rows = (0..).zip(rows.chunks_exact(ROW));
+            let joined = rows.filter(|(_, row)| row[2] != NONE);
+            index.scattered = joined.map(|(number, row)| (row[1], row[2], number)).collect();
+            index.scattered.sort_unstable();
+            let same = |pair: &[(u16, u16, u16)]| (pair[0].0, pair[0].1) == (pair[1].0, pair[1].1);
+            if index.scattered.windows(2).any(same) {
                 return None;
             }
         }
-        let mut joined = vec![(0, 0); pairs];
-        if pairs > 0 {
-            for spot in 1..from.len() {
-                from[spot] += from[spot - 1];
-            }
-            let mut next = from;
-            for (number, row) in rows.chunks_exact(ROW).enumerate() {
-                if row[2] != NONE {
-                    let spot = &mut next[usize::from(row[1])];
-                    joined[usize::from(*spot)] = (row[2], number as u16);
-                    *spot += 1;
-                }
-            }
-            for bounds in from.windows(2) {
-                let group = &mut joined[usize::from(bounds[0])..usize::from(bounds[1])];
-                if !group.is_sorted() {
-                    group.sort_unstable();
-                }
-                if group.windows(2).any(|pair| pair[0].0 == pair[1].0) {
-                    return None;
-                }
-            }
-        }
-        Some(Index { alone, from, joined })
+        Some(index)
     }
 
-    /// The transition that an item names.
+    /// The transition of these rows that an item names.
     #[inline]
-    pub fn find(&self, item: Item) -> Option<usize> {
+    pub fn find(&self, rows: &[u16], item: Item) -> Option<usize> {
         let first = usize::from(item.first);
         let Some(second) = item.second else {
             let number = self.alone[first];
             return (number != NONE).then_some(usize::from(number));
         };
-        let group = &self.joined[usize::from(self.from[first])..usize::from(self.from[first + 1])];
-        let spot = group.binary_search_by_key(&u16::from(second), |entry| entry.0).ok()?;
-        Some(usize::from(group[spot].1))
+        let (first, second) = (u16::from(item.first), u16::from(second));
+        if self.scattered.is_empty() {
+            let (start, count) = self.joined[usize::from(first)];
+            let (mut low, mut high) = (usize::from(start), usize::from(start + count));
+            while low < high {
+                let middle = (low + high) / 2;
+                match rows[middle * ROW + 2].cmp(&second) {
+                    Ordering::Less => low = middle + 1,
+                    Ordering::Equal => return Some(middle),
+                    Ordering::Greater => high = middle,
+                }
+            }
+            return None;
+        }
+        let key = |entry: &(u16, u16, u16)| (entry.0, entry.1);
+        let spot = self.scattered.binary_search_by_key(&(first, second), key).ok()?;
+        Some(usize::from(self.scattered[spot].2))
     }
 }

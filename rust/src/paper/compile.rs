@@ -86,7 +86,7 @@ impl Draft {
         kinds[..exits].fill(INTERNAL);
         kinds[..self.made().entries].fill(ENTRY);
         kinds[exits..].fill(EXIT);
-        let mut merge = Merge { left: [0; limit::PLACES], right: [0; limit::PLACES] };
+        let mut merge = Merge::default();
         let mut at = 0;
         for (listed, row) in self.transitions.iter().zip(rows.chunks_exact_mut(ROW)) {
             let t = &self.spread[usize::from(listed.first)];
@@ -128,27 +128,36 @@ fn arc_count(transitions: &[Listed], spread: &[Spread]) -> usize {
 }
 
 /// Room for two lists of places that are merged.
+#[derive(Default)]
 struct Merge {
-    left: [u16; limit::PLACES],
-    right: [u16; limit::PLACES],
+    left: Vec<u16>,
+    right: Vec<u16>,
 }
 
 impl Merge {
     /// Writes the places of both images to the front of `places`, rising.
     fn write(&mut self, t: &Image, u: &Image, places: &mut [u16]) -> usize {
-        let left = t.write(&mut self.left);
-        let right = u.write(&mut self.right);
-        let (left, right) = (&self.left[..left], &self.right[..right]);
+        let (low, high) = if t.first() < u.first() { (t, u) } else { (u, t) };
+        let m = low.write(places);
+        let n = high.write(&mut places[m..]);
+        let places = &mut places[..m + n];
+        if places[m - 1] < places[m] {
+            return m + n;
+        }
+        self.left.clear();
+        self.left.extend_from_slice(&places[..m]);
+        self.right.clear();
+        self.right.extend_from_slice(&places[m..]);
         let (mut i, mut j) = (0, 0);
-        for place in &mut places[..left.len() + right.len()] {
-            if j == right.len() || (i < left.len() && left[i] < right[j]) {
-                *place = left[i];
+        for place in places {
+            if j == n || (i < m && self.left[i] < self.right[j]) {
+                *place = self.left[i];
                 i += 1;
             } else {
-                *place = right[j];
+                *place = self.right[j];
                 j += 1;
             }
         }
-        left.len() + right.len()
+        m + n
     }
 }

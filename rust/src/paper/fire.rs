@@ -60,7 +60,7 @@ pub fn move_tokens(
 ) -> Result<(), Refused> {
     let named = &mut named.0[..items.len()];
     for (position, (item, number)) in items.iter().zip(&mut *named).enumerate() {
-        match index.find(*item) {
+        match index.find(rows, *item) {
             Some(found) => *number = found as u16,
             None => return Err(Refused::at(Reason::NoTransition, position)),
         }

@@ -56,6 +56,11 @@ impl Image {
         self.free += 1;
     }
 
+    /// The lowest place that holds the list's first place.
+    pub fn first(&self) -> u32 {
+        self.base
+    }
+
     /// How many places hold the list's first place.
     pub fn count(&self) -> usize {
         self.dims[..self.free].iter().map(|dim| usize::from(dim.0)).product()

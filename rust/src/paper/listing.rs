@@ -27,7 +27,7 @@ struct Open {
 
 /// Lists a plan's transitions, or none where there are over 1,024.
 pub fn list(plan: &Plan) -> Option<Vec<Listed>> {
-    let mut listing = Listing { plan, list: Vec::with_capacity(plan.labels().len()), joined: 0 };
+    let mut listing = Listing { plan, list: Vec::with_capacity(plan.actions), joined: 0 };
     let mut open = [Open::default(); limit::DEPTH];
     let (mut depth, mut action) = (0, 0);
     for (number, node) in plan.nodes.iter().enumerate() {
@@ -88,7 +88,7 @@ impl Listing<'_> {
         }
         let mut apart = [false; limit::ACTIONS];
         for t in &own[..owns] {
-            part(self.plan.partings(), usize::from(*t), &mut apart);
+            part(&self.plan.partings, usize::from(*t), &mut apart);
             for u in &conjugate[..conjugates] {
                 if apart[usize::from(*u)] {
                     self.joined += 1;

@@ -44,9 +44,10 @@ pub struct Parting {
 pub struct Plan {
     /// The fields, in the order of the bytes.
     pub nodes: Vec<Node>,
-    labels: [u8; limit::ACTIONS],
-    partings: [Parting; limit::ACTIONS],
-    actions: usize,
+    /// Where each action parts from the one after it.
+    pub partings: Vec<Parting>,
+    /// How many actions there are.
+    pub actions: usize,
 }
 
 impl Plan {
@@ -57,8 +58,8 @@ impl Plan {
         }
         let plan = Plan {
             nodes: Vec::with_capacity(bytes.len() / 3 + 1),
-            labels: [0; limit::ACTIONS],
-            partings: [Parting::default(); limit::ACTIONS],
+            // An action after the first comes with an operator's header.
+            partings: Vec::with_capacity(bytes.len() / 7 + 1),
             actions: 0,
         };
         let mut reader = Reader { bytes, plan };
@@ -74,16 +75,6 @@ impl Plan {
             Some(offset) => Err(Refused::at(Reason::BodyNotExclusive, offset)),
             None => Ok(plan),
         }
-    }
-
-    /// The labels of the actions, as they stand in the bytes.
-    pub fn labels(&self) -> &[u8] {
-        &self.labels[..self.actions]
-    }
-
-    /// Where each action parts from the one after it.
-    pub fn partings(&self) -> &[Parting] {
-        &self.partings[..self.actions.saturating_sub(1)]
     }
 
     /// The offset of the first loop whose body is not exclusive.
@@ -178,12 +169,10 @@ impl Reader<'_> {
         if label == 128 {
             return Err(Reason::WrongLabel);
         }
-        let plan = &mut self.plan;
-        let Some(spot) = plan.labels.get_mut(plan.actions) else {
+        if self.plan.actions == limit::ACTIONS {
             return Err(Reason::TooManyActions);
-        };
-        *spot = label;
-        plan.actions += 1;
+        }
+        self.plan.actions += 1;
         Ok(())
     }
 
@@ -199,9 +188,8 @@ impl Reader<'_> {
     ) -> Result<(), Refused> {
         let mut next = self.field(start, close, depth + 1)?;
         for _ in 1..count {
-            let plan = &mut self.plan;
-            let parallel = plan.nodes[here].tag == PARALLEL;
-            plan.partings[plan.actions - 1] = Parting { depth, parallel };
+            let parallel = self.plan.nodes[here].tag == PARALLEL;
+            self.plan.partings.push(Parting { depth, parallel });
             next = self.field(next, close, depth + 1)?;
         }
         self.plan.nodes[here].next = self.plan.nodes.len() as u16;

@@ -17,7 +17,7 @@ pub struct Spread {
 /// Spreads each action of a plan, by the lengths of its parts.
 pub fn spread(plan: &Plan, lengths: &[Lengths]) -> Vec<Spread> {
     let whole = lengths[0];
-    let mut spreader = Spreader { plan, lengths, of: Vec::with_capacity(plan.labels().len()) };
+    let mut spreader = Spreader { plan, lengths, of: Vec::with_capacity(plan.actions) };
     let exits = Image::at(whole.entries + whole.internals);
     spreader.part(0, Image::at(0), exits, whole.entries);
     spreader.of
