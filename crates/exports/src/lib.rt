@@ -2,7 +2,6 @@
 // carries, both 0 where there is none, and then what the call answers. A call whose array is too short answers false and touches nothing.
 ghost use mathlib.Core.Path.{_≡_};
 ghost use mathlib.Core.Bool.{cond};
-ghost use mathlib.Core.List.{[], _∷_};
 ghost use Prim.Native.Nat.{_≤_};
 ghost use lib.ListN.{length};
 ghost use lib.Dec.{leb};
@@ -13,21 +12,16 @@ ghost use Rattle.exports.specs.Told.{told, fire-tells, enabled-tells};
 use step::Enabling;
 use step::Fired;
 
-fn tell_two(answer: &mut [usize], number: usize, carried: usize)
-    requires { ⌜ 2 ≤ length (now answer) ⌝ }
-    ensures { λ _. ⌜ now (answer .exit) ≡ told (number ∷ carried ∷ []) (now (answer .entry)) ⌝ }
+// The numbers of an answer, for which there is room.
+fn tell(answer: &mut [usize], numbers: &[usize])
+    requires { ⌜ length (now numbers) ≤ length (now answer) ⌝ }
+    ensures { λ _. ⌜ now (answer .exit) ≡ told (now (numbers .entry)) (now (answer .entry)) ⌝ }
 {
-    answer[0] = number;
-    answer[1] = carried;
-}
-
-fn tell_three(answer: &mut [usize], number: usize, carried: usize, many: usize)
-    requires { ⌜ 3 ≤ length (now answer) ⌝ }
-    ensures { λ _. ⌜ now (answer .exit) ≡ told (number ∷ carried ∷ many ∷ []) (now (answer .entry)) ⌝ }
-{
-    answer[0] = number;
-    answer[1] = carried;
-    answer[2] = many;
+    let mut i = 0;
+    while i < numbers.len() {
+        answer[i] = numbers[i];
+        i += 1;
+    }
 }
 
 // Fires one step field at a marking. Two numbers: refusal, carried.
@@ -50,9 +44,18 @@ pub extern "C" fn fuuqidhel_fire(
     if answer.len() < 2 {
         return false;
     }
-    match step::fire(kinds, rows, arcs, places, transitions, arc_count, marking, step) {
-        Fired::Done => tell_two(answer, 0, 0),
-        Fired::Refused(number, carried) => tell_two(answer, number, carried),
+    match step::fire(
+        kinds,
+        rows,
+        arcs,
+        places,
+        transitions,
+        arc_count,
+        marking,
+        step,
+    ) {
+        Fired::Done => tell(answer, &[0, 0]),
+        Fired::Refused(number, carried) => tell(answer, &[number, carried]),
     }
     true
 }
@@ -77,10 +80,19 @@ pub extern "C" fn fuuqidhel_enabled(
     if answer.len() < 3 {
         return false;
     }
-    match step::enabled(kinds, rows, arcs, places, transitions, arc_count, marking, list) {
-        Enabling::Many(many) => tell_three(answer, 0, 0, many),
-        Enabling::Stuck => tell_three(answer, 0, 0, 0),
-        Enabling::Refused(number, carried) => tell_three(answer, number, carried, 0),
+    match step::enabled(
+        kinds,
+        rows,
+        arcs,
+        places,
+        transitions,
+        arc_count,
+        marking,
+        list,
+    ) {
+        Enabling::Many(many) => tell(answer, &[0, 0, many]),
+        Enabling::Stuck => tell(answer, &[0, 0, 0]),
+        Enabling::Refused(number, carried) => tell(answer, &[number, carried, 0]),
     }
     true
 }

@@ -17,38 +17,38 @@ fuuqidhel-enabled-spec =
     (λ c. (sym (lt-leb _ _ (c .if1 .taken)), (refl, refl)))
     (λ c κs. search needs)
     (λ c. search needs)
-    (λ c κs. search needs)
     (λ c. search needs)
     (λ c κs. search needs)
+    (λ c. search needs)
+    (λ c. search needs)
+    (λ c κs. search needs)
+    (λ c. search needs)
     (λ c. search needs)
     (λ c κs. search needs)
     (λ c. search needs)
     (λ c. search needs)
     (λ c.
-    let e = c .before .before .before .before .before .before .before .before .before in let n = c .before .before .before .before .before .many in (
+    let e = c .before .before .before .before .before .before .before .before .before .before in let n = c .before .before .before .before .before .before .many .given in (
+      sym (le-leb _ _ (e .before .before .if1 .left)),
+      (tells enabling-says enabled-tells (Many (n .0 .0)) (e .enabled .result) _ _ _ (n .1) (e .enabled .ensures .0) (c .before .before .tell .ensures), e .enabled .ensures .1),
+    ))
+    (λ c. search needs)
+    (λ c. search needs)
+    (λ c.
+    let e = c .before .before .before .before .before .before .before .before .before in (
       sym (le-leb _ _ (e .before .before .if1 .left)),
       (
-        tells enabling-says enabled-tells (Many (n .given .0 .0)) (e .enabled .result) _ _ _ (n .given .1) (e .enabled .ensures .0) (c .before .before .tell-three .ensures),
+        tells enabling-says enabled-tells Stuck (e .enabled .result) _ _ _ (c .before .before .before .before .before .enum-told .given .1) (e .enabled .ensures .0) (c .before .before .tell2 .ensures),
         e .enabled .ensures .1,
       ),
     ))
     (λ c. search needs)
     (λ c. search needs)
     (λ c.
-    let e = c .before .before .before .before .before .before .before .before in (
+    let e = c .before .before .before .before .before .before .before .before .before .before in let n = c .before .before .before .before .before .before .number .given in (
       sym (le-leb _ _ (e .before .before .if1 .left)),
       (
-        tells enabling-says enabled-tells Stuck (e .enabled .result) _ _ _ (c .before .before .before .before .enum-told .given .1) (e .enabled .ensures .0) (c .before .before .tell-three2 .ensures),
-        e .enabled .ensures .1,
-      ),
-    ))
-    (λ c. search needs)
-    (λ c. search needs)
-    (λ c.
-    let e = c .before .before .before .before .before .before .before .before .before in let n = c .before .before .before .before .before .number in (
-      sym (le-leb _ _ (e .before .before .if1 .left)),
-      (
-        tells enabling-says enabled-tells (Refused (n .given .0 .0) (n .given .0 .1 .0)) (e .enabled .result) _ _ _ (n .given .1) (e .enabled .ensures .0) (c .before .before .tell-three3 .ensures),
+        tells enabling-says enabled-tells (Refused (n .0 .0) (n .0 .1 .0)) (e .enabled .result) _ _ _ (n .1) (e .enabled .ensures .0) (c .before .before .tell3 .ensures),
         e .enabled .ensures .1,
       ),
     )))

@@ -17,26 +17,25 @@ fuuqidhel-fire-spec =
     (λ c. (sym (lt-leb _ _ (c .if1 .taken)), (refl, refl)))
     (λ c κs. search needs)
     (λ c. search needs)
+    (λ c. search needs)
     (λ c κs. search needs)
+    (λ c. search needs)
     (λ c. search needs)
     (λ c κs. search needs)
     (λ c. search needs)
     (λ c. search needs)
     (λ c.
-    let f = c .before .before .before .before .before .before .before .before in (
+    let f = c .before .before .before .before .before .before .before .before .before in (
       sym (le-leb _ _ (f .before .before .if1 .left)),
       (
-        tells fired-says fire-tells Done (f .fire .result) _ _ _ (c .before .before .before .before .enum-told .given .1) (f .fire .ensures .0) (c .before .before .tell-two .ensures),
+        tells fired-says fire-tells Done (f .fire .result) _ _ _ (c .before .before .before .before .before .enum-told .given .1) (f .fire .ensures .0) (c .before .before .tell .ensures),
         f .fire .ensures .1,
       ),
     ))
     (λ c. search needs)
     (λ c. search needs)
     (λ c.
-    let f = c .before .before .before .before .before .before .before .before .before in let n = c .before .before .before .before .before .number in (
+    let f = c .before .before .before .before .before .before .before .before .before .before in let n = c .before .before .before .before .before .before .number .given in (
       sym (le-leb _ _ (f .before .before .if1 .left)),
-      (
-        tells fired-says fire-tells (Refused (n .given .0 .0) (n .given .0 .1 .0)) (f .fire .result) _ _ _ (n .given .1) (f .fire .ensures .0) (c .before .before .tell-two2 .ensures),
-        f .fire .ensures .1,
-      ),
+      (tells fired-says fire-tells (Refused (n .0 .0) (n .0 .1 .0)) (f .fire .result) _ _ _ (n .1) (f .fire .ensures .0) (c .before .before .tell2 .ensures), f .fire .ensures .1),
     )))
