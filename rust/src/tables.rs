@@ -1,4 +1,6 @@
-//! The three tables of a net, lent or owned.
+//! The three tables of a net, lent or owned, and the paper's text of a net.
+
+use std::fmt;
 
 /// Stands for "no second action" in the rows.
 pub const NONE: u16 = 65_535;
@@ -129,5 +131,26 @@ impl Net {
     /// Whether a marking has a token at each exit place.
     pub fn is_finished(&self, marking: &[u8]) -> bool {
         marking[self.entries + self.internals..self.kinds.len()].iter().all(|token| *token == 1)
+    }
+}
+
+/// The listing program's text: a line of counts and a line for each transition.
+impl fmt::Display for Net {
+    fn fmt(&self, f: &mut fmt::Formatter<'_>) -> fmt::Result {
+        let Counts { places, transitions, arcs } = self.counts();
+        let exits = places - self.entries - self.internals;
+        writeln!(f, "net {} {} {exits} {transitions} {arcs}", self.entries, self.internals)?;
+        for (number, transition) in self.transitions().enumerate() {
+            write!(f, "t {number} {} {} ", transition.label, transition.first)?;
+            match transition.second {
+                NONE => write!(f, "- :")?,
+                second => write!(f, "{second} :")?,
+            }
+            transition.inputs.iter().try_for_each(|place| write!(f, " {place}"))?;
+            write!(f, " >")?;
+            transition.outputs.iter().try_for_each(|place| write!(f, " {place}"))?;
+            writeln!(f)?;
+        }
+        Ok(())
     }
 }

@@ -64,6 +64,15 @@ fn known_nets() {
 }
 
 #[test]
+fn text() {
+    let plan = [2, 0, 15, 4, 0, 8, 1, 0, 1, 1, 1, 0, 1, 2, 1, 0, 1, 3];
+    let lines = "net 2 2 1 3 7\nt 0 1 0 - : 0 > 2\nt 1 2 1 - : 1 > 3\nt 2 3 2 - : 2 3 > 4\n";
+    assert_eq!(net_of(&plan).unwrap().to_string(), lines);
+    let joined = "net 2 0 2 1 4\nt 0 0 0 1 : 0 1 > 2 3\n";
+    assert_eq!(net_of(&pairs(1, 1).encode()).unwrap().to_string(), joined);
+}
+
+#[test]
 fn at_the_limits() {
     let counts = |places, transitions, arcs| Ok(Counts { places, transitions, arcs });
     let choice = |m, n| alt(wide_par(1, m), wide_par(2, n));
