@@ -20,7 +20,7 @@ counts-length : (E : Expr) → length (node-counts E) ≡ 3 * node-count E
 unfolding node-counts
 counts-length E = values-length E
 
-table-length : (E : Expr) → length (node-table E) ≡ 6 * node-count E
+pub table-length : (E : Expr) → length (node-table E) ≡ 6 * node-count E
 unfolding node-table
 table-length E = rows-length 0 0 0 E
 

@@ -57,7 +57,7 @@ module _ (side : Side) (i n : ℕ) (E : Expr) where
   arcs-are kind ps l =
       numbers-ones (passes side i) 0 (places n E) ∙ ap (ones 0) all-is ∙ among-all kind ps l ∙ ap (λ c. stretched 1 (base kind c) ps) (box-lengths side i n E)
 
-numbers-few : (f : Place → Bool) (ps : List Place) → length (numbers f 0 ps) ≤ length ps
+pub numbers-few : (f : Place → Bool) (ps : List Place) → length (numbers f 0 ps) ≤ length ps
 numbers-few f ps = omega (arith, ap length (numbers-ones f 0 ps), ones-few 0 (map f ps), length-map ps f)
 
 -- ---- one action
@@ -99,7 +99,7 @@ module _ (rows : List ℕ) (nodes : ℕ) (counts : List ℕ) (i : ℕ) where
     action-arcs after r w E o = let q = found-arcs E o in record { all = w .all ∙ ap length (sym q); list = w .list ∙ sym q }
 
 -- ---- two actions
-begins-within : {out : List ℕ} {r : ℕ} {l : List ℕ} → Begins out r l → r ≤ length out
+pub begins-within : {out : List ℕ} {r : ℕ} {l : List ℕ} → Begins out r l → r ≤ length out
 begins-within {out} {r} {l} b = omega (arith, length-take r out, ap length (b .list), b .all)
 
 module _ (rows : List ℕ) (nodes : ℕ) (counts : List ℕ) (i j : ℕ) where

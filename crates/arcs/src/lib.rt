@@ -13,7 +13,7 @@ use crate::search::counts_at;
 use crate::search::find;
 use crate::widen::stretch;
 ghost use mathlib.Core.Path.{_≡_};
-ghost use lib.ListN.{length, replicate};
+ghost use lib.ListN.{length};
 ghost use Rattle.algebra.specs.Expr.{Expr};
 ghost use Rattle.algebra.specs.Item.{one, two};
 ghost use Rattle.algebra.specs.Places.{places};
@@ -54,14 +54,7 @@ pub fn arcs_of_action(
     stretch(out, count, 1, base)
 }
 
-// Work room.
-fn blank() -> [u16; 2048]
-    ensures { λ r. ⌜ r ≡ replicate 2048 0 ⌝ }
-{
-    [0u16; 2048]
-}
-
-// Of a joined transition: "It has both input sets and both output sets."
+// Of a joined transition: "It has both input sets and both output sets." Two arrays are lent as work room, so that none is cleared here.
 fn arcs_of_two(
     rows: &[u16; 8196],
     nodes: usize,
@@ -69,20 +62,20 @@ fn arcs_of_two(
     i: usize,
     j: usize,
     side: Side,
+    first: &mut [u16; 2048],
+    second: &mut [u16; 2048],
     out: &mut [u16; 2048],
 ) -> usize
     requires { ⌜ Asked (now rows) nodes (now counts) (two i j) ⌝ }
     ensures { λ r. ⌜ ((E : Expr) → Of (now (rows .entry)) nodes (now (counts .entry)) (two i j) E → Begins (now (out .exit)) r (numbers (by-item (passes side) (two i j)) 0 (places 0 E))) ⌝ }
 {
-    let mut first = blank();
-    let mut second = blank();
-    let a = arcs_of_action(rows, nodes, counts, i, side, &mut first);
-    let b = arcs_of_action(rows, nodes, counts, j, side, &mut second);
+    let a = arcs_of_action(rows, nodes, counts, i, side, first);
+    let b = arcs_of_action(rows, nodes, counts, j, side, second);
     numbers_in(out);
-    merge(&first, a, &second, b, out)
+    merge(first, a, second, b, out)
 }
 
-// The input or output places of the transition of a first action and a second, or 65,535, rising.
+// The input or output places of the transition of a first action and a second, or 65,535, rising. `left` and `right` are work room.
 pub fn arcs_of_item(
     rows: &[u16; 8196],
     nodes: usize,
@@ -90,6 +83,8 @@ pub fn arcs_of_item(
     first: usize,
     second: usize,
     side: Side,
+    left: &mut [u16; 2048],
+    right: &mut [u16; 2048],
     out: &mut [u16; 2048],
 ) -> usize
     requires { ⌜ Asked (now rows) nodes (now counts) (item-of first second) ⌝ }
@@ -98,5 +93,5 @@ pub fn arcs_of_item(
     if second == NONE {
         return arcs_of_action(rows, nodes, counts, first, side, out);
     }
-    arcs_of_two(rows, nodes, counts, first, second, side, out)
+    arcs_of_two(rows, nodes, counts, first, second, side, left, right, out)
 }

@@ -9,8 +9,8 @@ use lib.ListN.{length, getD, take, drop}
 use lib.Seq.{take-at}
 use lib.Dec.{T, leb}
 use borrow.Author.Tests.{leb-true, leb-false}
-use Rattle.field.specs.Limits.{place-limit, transition-limit, arc-limit}
-use Rattle.field.specs.Refusals.{too-many-places, too-many-transitions, too-many-arcs}
+use Rattle.field.specs.Limits.{place-limit, transition-limit}
+use Rattle.field.specs.Refusals.{too-many-places, too-many-transitions}
 use Rattle.field.specs.Answer.{Answer, good, refused, _>>=_, _>>_, check}
 use Rattle.field.proofs.Answers.{good-not-refused, good-same, bind-good}
 use Rattle.algebra.specs.Expr.{Expr, action, sequence, choice, parallel, loop, scope, actions}
@@ -27,17 +27,17 @@ use Rattle.plan.proofs.NodeTable.{rows-length}
 use Rattle.plan.proofs.Exact.{read-within}
 use Rattle.plan.proofs.Within.{limits-within}
 use Rattle.plan.proofs.ReadBack.{encode-length}
-use Rattle.boxes.specs.Counts.{cut, entry-count, internal-count, exit-count, place-count, arc-count, check-size}
+use Rattle.boxes.specs.Counts.{cut, entry-count, internal-count, exit-count, place-count, check-size}
 use Rattle.boxes.specs.NodeCounts.{counts-of, node-counts}
 use Rattle.boxes.specs.Compile.{accept}
 use Rattle.transitions.specs.Numbers.{flat, ListIs}
 use Rattle.transitions.specs.declared.Listed.{Listed}
 use Rattle.transitions.specs.declared.Listed.the-variants.{Many, TooMany}
-use Rattle.compile.specs.Judged.{check-places, check-transitions, judge, judged}
+use Rattle.compile.specs.Judged.{check-places, check-transitions, check-arcs, judge, judged}
 use Rattle.compile.specs.Ready.{Sizes, ready-sizes, ready, ListIsOf, CountsAreOf, TableIsOf, TablesAre, Few, Fine}
 
 -- A test of a count that is cut off is the test of the count.
-leb-cut : (limit n : ℕ) → leb (cut limit n) limit ≡ leb n limit
+pub leb-cut : (limit n : ℕ) → leb (cut limit n) limit ≡ leb n limit
 leb-cut limit n = go (leb (cut limit n) limit) (leb n limit) refl refl
   where
     go : (a b : Bool) → leb (cut limit n) limit ≡ a → leb n limit ≡ b → a ≡ b
@@ -46,14 +46,14 @@ leb-cut limit n = go (leb (cut limit n) limit) (leb n limit) refl refl
     go true false e f = absurd (omega (arith, leb-true (cut limit n) limit e, leb-false n limit f))
     go false true e f = absurd (omega (arith, leb-false (cut limit n) limit e, leb-true n limit f))
 
-leb-is-true : {n limit : ℕ} → n ≤ limit → leb n limit ≡ true
+pub leb-is-true : {n limit : ℕ} → n ≤ limit → leb n limit ≡ true
 leb-is-true {n} {limit} h = go (leb n limit) refl
   where
     go : (b : Bool) → leb n limit ≡ b → b ≡ true
     go true e = refl
     go false e = absurd (omega (arith, leb-false n limit e))
 
-leb-is-false : {n limit : ℕ} → limit < n → leb n limit ≡ false
+pub leb-is-false : {n limit : ℕ} → limit < n → leb n limit ≡ false
 leb-is-false {n} {limit} h = go (leb n limit) refl
   where
     go : (b : Bool) → leb n limit ≡ b → b ≡ false
@@ -102,7 +102,7 @@ module _ (E : Expr) (list list′ : List ℕ) where
       }
 
 -- The counts of the whole plan stand first.
-counts-first : (E : Expr) (l : List ℕ) → (getD (node-counts E ++ l) 0 0 ≡ entry-count E) × (getD (node-counts E ++ l) 1 0 ≡ internal-count E) × (getD (node-counts E ++ l) 2 0 ≡ exit-count E)
+pub counts-first : (E : Expr) (l : List ℕ) → (getD (node-counts E ++ l) 0 0 ≡ entry-count E) × (getD (node-counts E ++ l) 1 0 ≡ internal-count E) × (getD (node-counts E ++ l) 2 0 ≡ exit-count E)
 unfolding node-counts values counts-of
 counts-first (action a) l = (refl, refl, refl)
 counts-first (sequence E F) l = (refl, refl, refl)
@@ -243,11 +243,10 @@ in-turn (good _) (good _) (refused n c) arcs E = refl
 in-turn (good _) (refused n c) t arcs E = refl
 in-turn (refused n c) p t arcs E = refl
 
-pub accept-judged : (plan : List ℕ) → accept plan ≡ (judged plan >>= λ E. check (leb (arc-count E) arc-limit) too-many-arcs 0 >>= λ u. good E)
-unfolding accept judged judge check-places check-transitions check-size
+pub accept-judged : (plan : List ℕ) → accept plan ≡ (judged plan >>= λ E. check-arcs E >> good E)
+unfolding accept judged judge check-places check-transitions check-arcs check-size
 accept-judged plan = go (read-plan plan)
   where
-    go : (a : Answer Expr)
-        → (a >>= λ E. check-loops E >> (check-size E >> good E)) ≡ ((a >>= judge) >>= λ E. check (leb (arc-count E) arc-limit) too-many-arcs 0 >> good E)
-    go (good E) = in-turn (check-loops E) (check-places E) (check-transitions E) (λ F. check (leb (arc-count F) arc-limit) too-many-arcs 0) E
+    go : (a : Answer Expr) → (a >>= λ E. check-loops E >> (check-size E >> good E)) ≡ ((a >>= judge) >>= λ E. check-arcs E >> good E)
+    go (good E) = in-turn (check-loops E) (check-places E) (check-transitions E) check-arcs E
     go (refused n c) = refl

@@ -1,2 +1,4 @@
 pub mod Judged
 pub mod Ready
+pub mod Rows
+pub mod Built

@@ -12,7 +12,7 @@ const INTERNAL: u8 = 2;
 const EXIT: u8 = 3;
 
 // So many places from a number on are of one kind.
-fn write_run(kinds: &mut [u8], start: usize, count: usize, kind: u8)
+pub fn write_run(kinds: &mut [u8], start: usize, count: usize, kind: u8)
     requires { ⌜ start + count ≤ length (now kinds) ⌝ }
     ensures { λ _. ⌜ now (kinds .exit) ≡ sets (now (kinds .entry)) start (replicate count kind) ⌝ }
 {

@@ -1,8 +1,8 @@
 -- Demand 3: "For any accepted plan, any record of at most 16,384 bytes and a marking buffer long enough: replay accepts exactly when the calculus's own
 -- rules, worked on the expression with no net in sight, derive the recorded steps in that order from the started plan. Of a refused record it tells how
 -- many leading steps those rules derive, and the next one, as recorded, they do not. At each point so reached every place holds at most one token, and
--- when all exit places hold one, no other place does." Said of the definition of replay, which is the call's answer.
-use Prim.Native.Nat.{ℕ, zero, suc, _+_, _≤_}
+-- when all exit places hold one, no other place does." Said of the definition of replay, and then of every answer and buffer that the call's contract allows.
+use Prim.Native.Nat.{ℕ, _+_, _≤_}
 use native.Mathlib.Omega.{arith}
 use native.Mathlib.Nat.{zero-add}
 use mathlib.Core.Path.{_≡_, refl, sym, _∙_, ap, subst}
@@ -10,11 +10,12 @@ use mathlib.Core.Logic.{_⊎_, inl, inr, _↔_}
 use mathlib.Core.Bool.{Bool, true, false, cond}
 use mathlib.Core.List.{List, [], _∷_, _++_}
 use lib.ListN.{length, drop}
-use lib.Dec.{T, leb, le→leb}
+use lib.Dec.{leb, le→leb}
 use Rattle.field.specs.Limits.{record-limit}
 use Rattle.field.specs.Refusals.{two-tokens, no-transition, input-empty, input-shared}
-use Rattle.field.specs.Answer.{Answer, good, refused, _>>=_}
+use Rattle.field.specs.Answer.{good, _>>=_}
 use Rattle.field.proofs.Tests.{T-true}
+use Rattle.field.proofs.Answers.{bind-good}
 use Rattle.algebra.specs.Expr.{Expr}
 use Rattle.algebra.specs.Item.{Item}
 use Rattle.algebra.specs.Exclusive.{LoopsExclusive}
@@ -22,22 +23,28 @@ use Rattle.algebra.specs.Scopes.{ScopesNamed}
 use Rattle.algebra.specs.Dynamic.{Dynamic}
 use Rattle.algebra.specs.Steps.{Bag, Step}
 use Rattle.algebra.specs.Derived.{Derived}
-use Rattle.algebra.specs.Net.{Net, place-count}
+use Rattle.algebra.specs.Net.{place-count}
 use Rattle.algebra.specs.Arcs.{net-of}
 use Rattle.algebra.specs.Marking.{entry-marking, exits-marked}
 use Rattle.algebra.specs.Firing.{fire-items}
 use Rattle.algebra.specs.InOrder.{fire-in-order}
-use Rattle.algebra.proofs.Agreement.{OneState, one-state, NextRefused, next-refused, SafeAndClean, safe-and-clean, fires-iff-derived}
+use Rattle.algebra.proofs.Agreement.{OneState, one-state, next-refused, SafeAndClean, safe-and-clean, fires-iff-derived}
 use Rattle.plan.proofs.Exact.{read-within}
 use Rattle.plan.proofs.Within.{limits-within}
 use Rattle.plan.proofs.Scopes.{named-scopes}
 use Rattle.plan.proofs.Loops.{loops-exclusive}
 use Rattle.boxes.specs.Compile.{accept}
-use Rattle.boxes.proofs.TablesAreANet.{Accepted, accepted}
-use Rattle.step.specs.Form.{Recorded, ends, step, no-step, read-steps, read-record}
-use Rattle.replay.specs.Replay.{Verdict, finished, unfinished, refusal, Run, run, Replayed, start, replay}
-use Rattle.replay.specs.Recorded.{steps-of, Whole, After, now, later}
-use Rattle.replay.proofs.Runs.{AllFired, Stops, at-no-step, at-step, StoppedAt, RunSays, run-says, fired-accepted}
+use Rattle.boxes.proofs.TablesAreANet.{accepted}
+use Rattle.step.specs.Form.{Recorded, step, no-step, read-steps}
+use Rattle.run.specs.Run.{Verdict, finished, unfinished, refusal, Run, run}
+use Rattle.run.specs.Says.{ran-says}
+use Rattle.run.specs.declared.Ran.{Ran}
+use Rattle.run.specs.declared.Ran.the-variants.{Finished, Unfinished, Refused}
+use Rattle.run.proofs.Determined.{ran-once}
+use Rattle.replay.specs.Replay.{Replayed, start, replay}
+use Rattle.replay.specs.Recorded.{steps-of, Whole, After}
+use Rattle.replay.proofs.FormRefusals.{FormsIn, steps-form, after-form}
+use Rattle.replay.proofs.Runs.{Stops, at-no-step, at-step, RunSays, run-says, fired-accepted}
 
 -- A point of a run: some steps in order from the started plan, and the marking that stands at the front of the buffer after them.
 pub record Point (E : Expr) (Ss : List (List Item)) (m : List ℕ) : Type 0 where
@@ -140,3 +147,80 @@ module _ (plan record-bytes buffer : List ℕ) (E : Expr) (yes-plan : accept pla
       back d =
           let f = fires-iff-derived E exclusive scopes (steps-of R) .1 (d .1) in
           told (exits-marked (net-of E) (f .0)) (0 + length (steps-of R)) (verdict-is ∙ fired-accepted (net-of E) 0 (entry-marking (net-of E)) (f .0) R (d .0) (f .1))
+
+-- A point is reached by way of points: so is every list of steps in front of its own.
+fires-before : (E : Expr) (As Bs : List (List Item)) (m m′ : List ℕ) → fire-in-order (net-of E .transitions) m (As ++ Bs) ≡ good m′ → (l : List ℕ) × (fire-in-order (net-of E .transitions) m As ≡ good l)
+unfolding fire-in-order
+fires-before E [] Bs m m′ e = (m, refl)
+fires-before E (S ∷ As) Bs m m′ e =
+    let a = bind-good (fire-items (net-of E .transitions) m S) _ m′ e in
+    let b = fires-before E As Bs (a .0) m′ (a .2) in
+    (b .0, ap (λ x. x >>= λ l. fire-in-order (net-of E .transitions) l As) (a .1) ∙ b .1)
+
+pub each-point-before : (E : Expr) (As Bs : List (List Item)) (m : List ℕ) → Point E (As ++ Bs) m
+    → (l : List ℕ) × (fire-in-order (net-of E .transitions) (entry-marking (net-of E)) As ≡ good l) × Point E As l
+each-point-before E As Bs m p =
+    let f = fires-iff-derived E (p .exclusive) (p .scopes) (As ++ Bs) .1 (p .states .some) in
+    let b = fires-before E As Bs (entry-marking (net-of E)) (f .0) (f .1) in (
+      b .0,
+      b .1,
+      record {
+        exclusive = p .exclusive;
+        scopes = p .scopes;
+        states = one-state E (p .exclusive) (p .scopes) As (b .0) (b .1);
+        marking = safe-and-clean E (p .exclusive) (p .scopes) As (b .0) (b .1);
+      },
+    )
+
+-- The same of the call `replay`: any answer r and any buffer at exit that its contract allows.
+module _ (plan record-bytes buffer : List ℕ) (E : Expr) (yes-plan : accept plan ≡ good E) (short : length record-bytes ≤ record-limit) (room : place-count (net-of E) ≤ length buffer)
+    (r : Ran) (exit : List ℕ) (says : ran-says r ≡ replay plan record-bytes buffer .verdict) (leaves : exit ≡ replay plan record-bytes buffer .buffer) where
+  pub call-demand-3 : Demand3 E (read-steps 0 0 record-bytes) buffer (record { verdict = ran-says r; buffer = exit })
+  call-demand-3 = subst (Demand3 E (read-steps 0 0 record-bytes) buffer) (λ i. record { verdict = sym says i; buffer = sym leaves i }) (demand-3 plan record-bytes buffer E yes-plan short room)
+
+  -- The call answers Finished or Unfinished exactly when the record is steps and the rules derive them in order from the started plan.
+  pub call-accepts-iff-derived : ((k : ℕ) × ((r ≡ Finished k) ⊎ (r ≡ Unfinished k))) ↔ (Whole (read-steps 0 0 record-bytes) × ((D : Dynamic E) × Derived E (steps-of (read-steps 0 0 record-bytes)) D))
+  call-accepts-iff-derived = (λ a. law .0 (a .0, there (a .0) (a .1)), λ d. let a = law .1 d in (a .0, back (a .0) (a .1)))
+    where
+      law : AcceptsIt plan record-bytes buffer E yes-plan short room ↔ DerivesIt plan record-bytes buffer E yes-plan short room
+      law = accepts-iff-derived plan record-bytes buffer E yes-plan short room
+
+      v : Verdict
+      v = replay plan record-bytes buffer .verdict
+
+      there : (k : ℕ) → (r ≡ Finished k) ⊎ (r ≡ Unfinished k) → (v ≡ finished k) ⊎ (v ≡ unfinished k)
+      there k (inl e) = inl (sym says ∙ ap ran-says e)
+      there k (inr e) = inr (sym says ∙ ap ran-says e)
+
+      back : (k : ℕ) → (v ≡ finished k) ⊎ (v ≡ unfinished k) → (r ≡ Finished k) ⊎ (r ≡ Unfinished k)
+      back k (inl e) = inl (ran-once r (Finished k) (says ∙ e))
+      back k (inr e) = inr (ran-once r (Unfinished k) (says ∙ e))
+
+  -- Refused with so many steps told: these are derived, and what is recorded next, a step or not, is not.
+  pub call-refused : (n c k : ℕ) → r ≡ Refused n c k
+      → (Ss : List (List Item)) × (next : Recorded) × (m : List ℕ) × After k (read-steps 0 0 record-bytes) Ss next × Point E Ss m × NotDerived E Ss n c next × (exit ≡ m ++ drop (place-count (net-of E)) buffer)
+  call-refused n c k e = go call-demand-3
+    where
+      no-acceptance : {X : Type 0} (b : Bool) (j : ℕ) → ran-says r ≡ cond b (finished j) (unfinished j) → X
+      no-acceptance true j f = absurd (let g : refusal n c k ≡ finished j = sym (ap ran-says e) ∙ f in let z : _≡_ {A = ℕ} 0 1 = cc in let w : ⊥ = omega arith in w)
+      no-acceptance false j f = absurd (let g : refusal n c k ≡ unfinished j = sym (ap ran-says e) ∙ f in let z : _≡_ {A = ℕ} 0 1 = cc in let w : ⊥ = omega arith in w)
+
+      go : Demand3 E (read-steps 0 0 record-bytes) buffer (record { verdict = ran-says r; buffer = exit })
+          → (Ss : List (List Item)) × (next : Recorded) × (m : List ℕ) × After k (read-steps 0 0 record-bytes) Ss next × Point E Ss m × NotDerived E Ss n c next × (exit ≡ m ++ drop (place-count (net-of E)) buffer)
+      go (accepts m w p b f) = no-acceptance (exits-marked (net-of E) m) (length (steps-of (read-steps 0 0 record-bytes))) f
+      go (refuses n′ c′ k′ Ss next m a p d b f) =
+          let g : refusal n′ c′ k′ ≡ refusal n c k = sym f ∙ ap ran-says e in
+          let x : n′ ≡ n = cc in
+          let y : c′ ≡ c = cc in
+          let z : k′ ≡ k = cc in
+          (Ss, next, m, subst (λ j. After j (read-steps 0 0 record-bytes) Ss next) z a, p, subst (λ j. NotDerived E Ss j c next) x (subst (λ j. NotDerived E Ss n′ j next) y d), b)
+
+  -- "36 cannot come from replay."
+  pub call-never-36 : (c k : ℕ) → r ≡ Refused two-tokens c k → ⊥
+  call-never-36 c k e = let q = call-refused two-tokens c k e in go (q .1) (after-form (q .3) (steps-form 0 0 record-bytes)) (q .5)
+    where
+      go : {Ss : List (List Item)} (next : Recorded) → FormsIn next → NotDerived E Ss two-tokens c next → ⊥
+      go _ h no-step-there = omega arith
+      go _ h (not-derived f (inl e)) = omega arith
+      go _ h (not-derived f (inr (inl e))) = omega arith
+      go _ h (not-derived f (inr (inr e))) = omega arith

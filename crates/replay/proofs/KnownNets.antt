@@ -6,7 +6,8 @@ use mathlib.Core.List.{List, [], _∷_, _++_, map}
 use lib.ListN.{replicate}
 use Rattle.boxes.specs.Compile.{compile}
 use Rattle.boxes.proofs.KnownNets.{Known, known, lent, known-nets, ab-then-c, a-alone}
-use Rattle.replay.specs.Replay.{Verdict, finished, unfinished, refusal, Replayed, replay}
+use Rattle.run.specs.Run.{Verdict, finished, unfinished, refusal}
+use Rattle.replay.specs.Replay.{Replayed, replay}
 
 abbrev buffer : List ℕ
 buffer = replicate 6 9

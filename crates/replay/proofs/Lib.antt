@@ -1,4 +1,10 @@
 pub mod KnownNets
 pub mod Runs
+pub mod Demand1
 pub mod Demand3
 pub mod CallsOnANet
+pub mod EntryMarking
+pub mod WorkRoom
+pub mod ReplayCall
+pub mod Determined
+pub mod FormRefusals

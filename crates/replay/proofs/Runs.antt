@@ -15,7 +15,7 @@ use Rattle.algebra.specs.Marking.{exits-marked}
 use Rattle.algebra.specs.Firing.{fire-items}
 use Rattle.algebra.specs.InOrder.{fire-in-order}
 use Rattle.step.specs.Form.{Recorded, ends, step, no-step}
-use Rattle.replay.specs.Replay.{Verdict, finished, unfinished, refusal, Run, go-on, run}
+use Rattle.run.specs.Run.{Verdict, finished, unfinished, refusal, Run, go-on, run}
 use Rattle.replay.specs.Recorded.{steps-of, Whole, After, now, later}
 
 -- What a run of the record R at the marking m says, with k steps before it: either all its fields are steps, and they fired;

@@ -151,7 +151,7 @@ pub fn read_items(
 }
 
 // The header of the step field at the front of the bytes.
-fn step_head(s: &[u8]) -> HeadAnswer
+pub fn step_head(s: &[u8]) -> HeadAnswer
     ensures says { λ r. ⌜ ((at : ℕ) → head-says at r ≡ step-head at (now (s .entry))) ⌝ }
     ensures fits { λ r. ⌜ HeadFits (length (now (s .entry))) r ⌝ }
 {

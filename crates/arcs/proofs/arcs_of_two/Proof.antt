@@ -7,25 +7,43 @@ use Rattle.arcs.proofs.Transitions.{asked-first, asked-second, mergeabl
 use Rattle.arcs.proofs.arcs_of_two.Statement.{statement}
 use Rattle.arcs.proofs.arcs_of_two.Tie as tie
 
+arcs-of-action-requires : tie.Need-arcs-of-action-requires
+arcs-of-action-requires c κs =
+    let s = c .before in
+    let a = s .args in
+    asked-first (a .rows .now) (a .nodes) (a .counts .now) (a .i) (a .j) (s .pre)
+
+arcs-of-action-requires-2 : tie.Need-arcs-of-action-requires-2
+arcs-of-action-requires-2 c κs =
+    let s = c .before .before .before in
+    let a = s .args in
+    asked-second (a .rows .now) (a .nodes) (a .counts .now) (a .i) (a .j) (s .pre)
+
+numbers-in-requires : tie.Need-numbers-in-requires
+numbers-in-requires c κs = search needs
+
+merge-requires : tie.Need-merge-requires
+merge-requires c κs =
+    let s = c .before .before .before .before .before .before .before .before .before .before in
+    let a = s .args in
+    let o : length (a .out .now) ≡ 2048 = search needs in
+    let first = c .before .before .before .before .before .before .before .before .arcs-of-action in
+    let second = c .before .before .before .before .before .before .arcs-of-action2 in
+    mergeable (a .rows .now) (a .nodes) (a .counts .now) (a .i) (a .j) (a .side) _ _ (first .result) (second .result) (first .ensures) (second .ensures) (a .out .now) o (s .pre)
+
+returns : tie.Need-returns
+returns c =
+    let a = c .before .before .before .before .before .before .before .before .before .before .before .args in
+    let first = c .before .before .before .before .before .before .before .before .before .arcs-of-action in
+    let second = c .before .before .before .before .before .before .before .arcs-of-action2 in
+    two-arcs (a .rows .now) (a .nodes) (a .counts .now) (a .i) (a .j) (a .side) _ _ (first .result) (second .result) (first .ensures) (second .ensures) _ (c .merge .result) (c .merge .ensures)
+
 pub arcs-of-two-spec : {M : Type 1} → statement M
 arcs-of-two-spec =
     tie.close
     (tie.spec
-    (λ c κs. search needs)
-    (λ c κs. search needs)
-    (λ c κs. let s = c .before .before .before in
-    let a = s .args in
-    asked-first (a .rows .now) (a .nodes) (a .counts .now) (a .i) (a .j) (s .pre))
-    (λ c κs. let s = c .before .before .before .before .before in
-    let a = s .args in
-    asked-second (a .rows .now) (a .nodes) (a .counts .now) (a .i) (a .j) (s .pre))
-    (λ c κs. search needs)
-    (λ c κs. let s = c .before .before .before .before .before .before .before .before .before .before .before .before in
-    let a = s .args in
-    let o : length (a .out .now) ≡ 2048 = search needs in
-    mergeable (a .rows .now) (a .nodes) (a .counts .now) (a .i) (a .j) (a .side) _ _ (c .before .before .before .before .before .before .before .before .arcs-of-action .result) (c .before .before .before .before .before .before .arcs-of-action2 .result)
-    (c .before .before .before .before .before .before .before .before .arcs-of-action .ensures) (c .before .before .before .before .before .before .arcs-of-action2 .ensures) (a .out .now) o (s .pre))
-    (λ c. let s = c .before .before .before .before .before .before .before .before .before .before .before .before .before in
-    let a = s .args in
-    two-arcs (a .rows .now) (a .nodes) (a .counts .now) (a .i) (a .j) (a .side) _ _ (c .before .before .before .before .before .before .before .before .before .arcs-of-action .result) (c .before .before .before .before .before .before .before .arcs-of-action2 .result)
-    (c .before .before .before .before .before .before .before .before .before .arcs-of-action .ensures) (c .before .before .before .before .before .before .before .arcs-of-action2 .ensures) _ (c .merge .result) (c .merge .ensures)))
+    arcs-of-action-requires
+    arcs-of-action-requires-2
+    numbers-in-requires
+    merge-requires
+    returns)

@@ -1,0 +1,54 @@
+-- `told` meets its contract: the three counts as they stand in front.
+-- Assumes nothing.
+use Prim.Native.Nat.{_+_}
+use mathlib.Core.Path.{_∙_}
+use Rattle.field.specs.Answer.{good}
+use borrow.Author.Needs.{needs}
+use Rattle.compile.proofs.building.told.Statement.{statement}
+use Rattle.compile.proofs.building.told.Tie as tie
+
+number-at-requires : tie.Need-number-at-requires
+number-at-requires c κs = search needs
+
+wide-requires : tie.Need-wide-requires
+wide-requires c κs = search needs
+
+number-at-requires-2 : tie.Need-number-at-requires-2
+number-at-requires-2 c κs = search needs
+
+wide-requires-2 : tie.Need-wide-requires-2
+wide-requires-2 c κs = search needs
+
+number-at-requires-3 : tie.Need-number-at-requires-3
+number-at-requires-3 c κs = search needs
+
+wide-requires-3 : tie.Need-wide-requires-3
+wide-requires-3 c κs = search needs
+
+add-t14 : tie.Need-add-t14
+add-t14 c = search needs
+
+add-t15 : tie.Need-add-t15
+add-t15 c = search needs
+
+returns : tie.Need-returns
+returns c =
+    let n = c .before .before .before .before .before .before .before .before .before .args in
+    let a = c .before .before .before .before .before .before .wide .ensures .0 ∙ c .before .before .before .before .before .before .before .number-at .ensures in
+    let b = c .before .before .before .wide2 .ensures .0 ∙ c .before .before .before .before .number-at2 .ensures in
+    let d = c .wide3 .ensures .0 ∙ c .before .number-at3 .ensures in
+    λ k. good (record { places = a k + (b k + d k); transitions = n .transitions; arcs = n .arcs; entries = a k; internals = b k })
+
+pub told-spec : {M : Type 1} → statement M
+told-spec =
+    tie.close
+    (tie.spec
+    number-at-requires
+    wide-requires
+    number-at-requires-2
+    wide-requires-2
+    number-at-requires-3
+    wide-requires-3
+    add-t14
+    add-t15
+    returns)

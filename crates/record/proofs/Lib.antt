@@ -1,0 +1,3 @@
+pub mod HeadSaid
+pub mod StepThere
+pub mod TwoClauses

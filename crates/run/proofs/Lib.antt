@@ -1,0 +1,4 @@
+pub mod StepsTaken
+pub mod RunsOn
+pub mod RunEnds
+pub mod Determined
