@@ -26,9 +26,32 @@ extern "C" {
 
 /* How many numbers each call tells. */
 enum {
+    FUUQIDHEL_COMPILE_NUMBERS = 7,
     FUUQIDHEL_FIRE_NUMBERS = 2,
-    FUUQIDHEL_ENABLED_NUMBERS = 3
+    FUUQIDHEL_ENABLED_NUMBERS = 3,
+    FUUQIDHEL_REPLAY_NUMBERS = 4
 };
+
+/* Room in which the net of every plan fits: bytes of kinds, numbers of rows and
+ * of arcs. A marking has as many bytes as the kinds. */
+enum {
+    FUUQIDHEL_KINDS = 2048,
+    FUUQIDHEL_ROWS = 6144,
+    FUUQIDHEL_ARCS = 16384
+};
+
+/* Compiles a plan into three tables: a byte for each place (1 entry, 2 internal,
+ * 3 exit); six numbers for each transition (label, first action, second action
+ * or 65,535, start in the arcs, input count, output count); and the arcs, place
+ * numbers, inputs then outputs. What lies behind the net's part is not written,
+ * and nothing is on refusal. Answer: refusal, carried, places, transitions,
+ * arcs, and how many of the places are entries and how many internals. Refusals:
+ * 1 to 14. */
+bool fuuqidhel_compile(const uint8_t *plan, size_t plan_length,
+                       uint8_t *kinds, size_t kinds_length,
+                       uint16_t *rows, size_t rows_length,
+                       uint16_t *arcs, size_t arcs_length,
+                       size_t *answer, size_t answer_length);
 
 /* Fires one step field at a marking, a byte for each place: 0 or 1 token. On
  * refusal the marking stays as it was, and what lies behind the net's `places`
@@ -52,6 +75,16 @@ bool fuuqidhel_enabled(const uint8_t *kinds, size_t kinds_length,
                        const uint8_t *marking, size_t marking_length,
                        uint16_t *list, size_t list_length,
                        size_t *answer, size_t answer_length);
+
+/* Replays a record against a plan, from the plan's entry marking. The marking
+ * afterwards is the one after the accepted steps; what it held before does not
+ * matter. It is not written where the plan, its own length or the record's
+ * length is refused. Answer: refusal, carried, accepted steps, and 1 where all
+ * exit places are marked. Refusals: 1 to 13, 35, 20, 21 to 24, 31 to 33. */
+bool fuuqidhel_replay(const uint8_t *plan, size_t plan_length,
+                      const uint8_t *record, size_t record_length,
+                      uint8_t *marking, size_t marking_length,
+                      size_t *answer, size_t answer_length);
 
 #ifdef __cplusplus
 }

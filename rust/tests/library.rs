@@ -17,22 +17,14 @@ const PAST: u8 = 7;
 fn library_and_paper_agree() {
     let mut random = Random::new(20_261_115);
     let mut table = Table::default();
-    #[cfg(feature = "whole")]
-    {
-        whole::compiling(&mut random, &mut table, 80_000);
-        whole::replaying(&mut random, &mut table, 60_000);
-    }
+    whole::compiling(&mut random, &mut table, 80_000);
+    whole::replaying(&mut random, &mut table, 60_000);
     firing(&mut random, &mut table, 60_000);
     listing(&mut random, &mut table, 40_000);
     table.print();
     let missing: Vec<Reason> = Reason::ALL.into_iter().filter(|one| !table.has(*one)).collect();
-    if cfg!(feature = "whole") {
-        assert_eq!(missing, []);
-        assert!(table.inputs() >= 200_000);
-    } else {
-        let own = missing.iter().filter(|reason| reason.number() > 20);
-        assert_eq!(own.collect::<Vec<_>>(), Vec::<&Reason>::new());
-    }
+    assert_eq!(missing, []);
+    assert!(table.inputs() >= 200_000);
 }
 
 /// Expressions of all sizes: mostly small, some near the limits.
@@ -142,7 +134,6 @@ fn listing(random: &mut Random, table: &mut Table, inputs: usize) {
     }
 }
 
-#[cfg(feature = "whole")]
 mod whole {
     use super::*;
     use fuuqidhel::paper::calculus;

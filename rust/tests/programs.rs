@@ -1,6 +1,6 @@
 //! The two programs against the second implementation: what they write, on
 //! generated inputs and where files are missing or too long.
-#![cfg(feature = "whole")]
+#![cfg(feature = "library")]
 
 use std::fs;
 use std::io::Write;

@@ -6,9 +6,14 @@ ghost use Prim.Native.Nat.{_≤_};
 ghost use lib.ListN.{length};
 ghost use lib.Dec.{leb};
 ghost use Rattle.net.specs.Lent.{lent};
+ghost use Rattle.boxes.specs.Compile;
 ghost use Rattle.step.specs.Fire;
 ghost use Rattle.step.specs.Enabled;
-ghost use Rattle.exports.specs.Told.{told, fire-tells, enabled-tells};
+ghost use Rattle.compile.specs.Built.{lent as lent-tables};
+ghost use Rattle.replay.specs.Replay;
+ghost use Rattle.exports.specs.Told.{told, compile-tells, fire-tells, enabled-tells, replay-tells};
+use compile::Compiling;
+use run::Ran;
 use step::Enabling;
 use step::Fired;
 
@@ -22,6 +27,40 @@ fn tell(answer: &mut [usize], numbers: &[usize])
         answer[i] = numbers[i];
         i += 1;
     }
+}
+
+// Compiles a plan into the lent tables. Seven numbers: refusal, carried, places, transitions, arcs, entries, internals.
+#[no_mangle]
+pub extern "C" fn fuuqidhel_compile(
+    plan: &[u8],
+    kinds: &mut [u8],
+    rows: &mut [u16],
+    arcs: &mut [u16],
+    answer: &mut [usize],
+) -> bool
+    ensures room { λ r. ⌜ r ≡ leb 7 (length (now (answer .entry))) ⌝ }
+    ensures answer { λ r. ⌜ now (answer .exit) ≡ cond r (told (compile-tells (Compile.compile (now (plan .entry)) (lent-tables (now (kinds .entry)) (now (rows .entry)) (now (arcs .entry))) .answer)) (now (answer .entry))) (now (answer .entry)) ⌝ }
+    ensures kinds { λ r. ⌜ now (kinds .exit) ≡ cond r (Compile.compile (now (plan .entry)) (lent-tables (now (kinds .entry)) (now (rows .entry)) (now (arcs .entry))) .tables .kinds) (now (kinds .entry)) ⌝ }
+    ensures rows { λ r. ⌜ now (rows .exit) ≡ cond r (Compile.compile (now (plan .entry)) (lent-tables (now (kinds .entry)) (now (rows .entry)) (now (arcs .entry))) .tables .rows) (now (rows .entry)) ⌝ }
+    ensures arcs { λ r. ⌜ now (arcs .exit) ≡ cond r (Compile.compile (now (plan .entry)) (lent-tables (now (kinds .entry)) (now (rows .entry)) (now (arcs .entry))) .tables .arcs) (now (arcs .entry)) ⌝ }
+{
+    if answer.len() < 7 {
+        return false;
+    }
+    match compile::compile(plan, kinds, rows, arcs) {
+        Compiling::Refused(number, carried) => tell(answer, &[number, carried, 0, 0, 0, 0, 0]),
+        Compiling::Made {
+            places,
+            transitions,
+            arcs: arc_count,
+            entries,
+            internals,
+        } => tell(
+            answer,
+            &[0, 0, places, transitions, arc_count, entries, internals],
+        ),
+    }
+    true
 }
 
 // Fires one step field at a marking. Two numbers: refusal, carried.
@@ -93,6 +132,29 @@ pub extern "C" fn fuuqidhel_enabled(
         Enabling::Many(many) => tell(answer, &[0, 0, many]),
         Enabling::Stuck => tell(answer, &[0, 0, 0]),
         Enabling::Refused(number, carried) => tell(answer, &[number, carried, 0]),
+    }
+    true
+}
+
+// Replays a record against a plan. Four numbers: refusal, carried, accepted steps, 1 where finished.
+#[no_mangle]
+pub extern "C" fn fuuqidhel_replay(
+    plan: &[u8],
+    record: &[u8],
+    marking: &mut [u8],
+    answer: &mut [usize],
+) -> bool
+    ensures room { λ r. ⌜ r ≡ leb 4 (length (now (answer .entry))) ⌝ }
+    ensures answer { λ r. ⌜ now (answer .exit) ≡ cond r (told (replay-tells (Replay.replay (now (plan .entry)) (now («record» .entry)) (now (marking .entry)) .verdict)) (now (answer .entry))) (now (answer .entry)) ⌝ }
+    ensures marking { λ r. ⌜ now (marking .exit) ≡ cond r (Replay.replay (now (plan .entry)) (now («record» .entry)) (now (marking .entry)) .buffer) (now (marking .entry)) ⌝ }
+{
+    if answer.len() < 4 {
+        return false;
+    }
+    match replay::replay(plan, record, marking) {
+        Ran::Finished(steps) => tell(answer, &[0, 0, steps, 1]),
+        Ran::Unfinished(steps) => tell(answer, &[0, 0, steps, 0]),
+        Ran::Refused(number, carried, steps) => tell(answer, &[number, carried, steps, 0]),
     }
     true
 }

@@ -4,18 +4,12 @@
 #[allow(unsafe_code)]
 mod raw;
 
-use crate::answer::{Enabled, Reason, Refused};
-#[cfg(feature = "whole")]
-use crate::answer::{Replayed, Stopped};
-#[cfg(feature = "whole")]
+use crate::answer::{Enabled, Reason, Refused, Replayed, Stopped};
 use crate::limit;
-#[cfg(feature = "whole")]
-use crate::tables::{Counts, Made, ROW};
-use crate::tables::{Net, Tables};
+use crate::tables::{Counts, Made, Net, Tables, ROW};
 
 /// Compiles a plan into the lent tables, six numbers in `rows` for each
 /// transition. Nothing is written on refusal, nor past the net's part.
-#[cfg(feature = "whole")]
 pub fn compile(
     plan: &[u8],
     kinds: &mut [u8],
@@ -47,7 +41,6 @@ pub fn enabled(tables: Tables<'_>, marking: &[u8], list: &mut [u16]) -> Result<E
 /// one after the accepted steps; what it held before does not matter, and it
 /// stays as it was where the plan, the marking's length or the record's length
 /// is refused.
-#[cfg(feature = "whole")]
 pub fn replay(plan: &[u8], record: &[u8], marking: &mut [u8]) -> Result<Replayed, Stopped> {
     let [number, carried, steps, finished] = raw::replay(plan, record, marking);
     accepted(number, carried).map_err(|refused| Stopped { refused, steps })?;
@@ -66,7 +59,6 @@ fn accepted(number: usize, carried: usize) -> Result<(), Refused> {
 /// Calls of the library on the net's own tables.
 impl Net {
     /// Compiles a plan.
-    #[cfg(feature = "whole")]
     pub fn compile(plan: &[u8]) -> Result<Net, Refused> {
         let mut kinds = vec![0; limit::PLACES];
         let mut rows = vec![0; limit::TRANSITIONS * ROW];

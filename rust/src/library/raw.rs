@@ -6,7 +6,6 @@ use crate::tables::Tables;
 
 mod c {
     extern "C" {
-        #[cfg(feature = "whole")]
         pub fn fuuqidhel_compile(
             plan: *const u8,
             plan_length: usize,
@@ -56,7 +55,6 @@ mod c {
             answer_length: usize,
         ) -> bool;
 
-        #[cfg(feature = "whole")]
         pub fn fuuqidhel_replay(
             plan: *const u8,
             plan_length: usize,
@@ -71,7 +69,6 @@ mod c {
 }
 
 /// Number, carried, places, transitions, arcs, entries, internals.
-#[cfg(feature = "whole")]
 pub fn compile(plan: &[u8], kinds: &mut [u8], rows: &mut [u16], arcs: &mut [u16]) -> [usize; 7] {
     let mut answer = [0; 7];
     // SAFETY: each pointer goes with its own slice's length, the slices live
@@ -149,7 +146,6 @@ pub fn enabled(tables: Tables<'_>, marking: &[u8], list: &mut [u16]) -> [usize; 
 }
 
 /// Number, carried, accepted steps, 1 where finished.
-#[cfg(feature = "whole")]
 pub fn replay(plan: &[u8], record: &[u8], marking: &mut [u8]) -> [usize; 4] {
     let mut answer = [0; 4];
     // SAFETY: as in `compile`.

@@ -44,7 +44,7 @@ pub fn cases(input: &Input) -> Vec<Case<'_>> {
 }
 
 fn compile(input: &Input) -> Case<'_> {
-    let (library, paper) = sides!("whole", side => {
+    let (library, paper) = sides!("library", side => {
         let mut kinds = vec![0; limit::PLACES];
         let mut rows = vec![0; limit::TRANSITIONS * 6];
         let mut arcs = vec![0; limit::ARCS];
@@ -59,7 +59,7 @@ fn compile(input: &Input) -> Case<'_> {
 }
 
 fn replay(input: &Input) -> Case<'_> {
-    let (library, paper) = sides!("whole", side => {
+    let (library, paper) = sides!("library", side => {
         let mut marking = vec![0; limit::PLACES];
         move |turns| {
             for _ in 0..turns {
