@@ -5,10 +5,13 @@
 mod common;
 
 use common::Table;
+use fuuqidhel::paper::calculus;
+use fuuqidhel::paper::expr::Expr;
+use fuuqidhel::paper::plan::Plan;
 use fuuqidhel::paper::record::{written, Item};
 use fuuqidhel::paper::replay::replay_on;
 use fuuqidhel::random::{self, Random, Shape};
-use fuuqidhel::{library, paper, Counts, Net, Reason, Tables};
+use fuuqidhel::{library, limit, paper, Counts, Made, Net, Reason, Stopped, Tables};
 
 /// What lies past a net's part, to be found again.
 const PAST: u8 = 7;
@@ -17,8 +20,8 @@ const PAST: u8 = 7;
 fn library_and_paper_agree() {
     let mut random = Random::new(20_261_115);
     let mut table = Table::default();
-    whole::compiling(&mut random, &mut table, 80_000);
-    whole::replaying(&mut random, &mut table, 60_000);
+    compiling(&mut random, &mut table, 80_000);
+    replaying(&mut random, &mut table, 60_000);
     firing(&mut random, &mut table, 60_000);
     listing(&mut random, &mut table, 40_000);
     table.print();
@@ -37,6 +40,79 @@ fn plan(random: &mut Random) -> Vec<u8> {
         _ => (random.between(1, 8), 10),
     };
     random::plan(random, Shape { actions, depth, names, faulty: 12 }).encode()
+}
+
+fn compiling(random: &mut Random, table: &mut Table, inputs: usize) {
+    for _ in 0..inputs {
+        let mut plan = plan(random);
+        if random.chance(2, 5) {
+            random::damage(random, &mut plan);
+        }
+        let needed = paper::net_of(&plan).map_or(Counts::default(), |net| net.counts());
+        let mut length = |needed: usize| match random.below(20) {
+            0 => needed.saturating_sub(1),
+            1 => needed + 3,
+            _ => needed,
+        };
+        let kinds = vec![PAST; length(needed.places)];
+        let rows = vec![u16::from(PAST); length(6 * needed.transitions)];
+        let arcs = vec![u16::from(PAST); length(needed.arcs)];
+        let (mut k, mut r, mut a) = (kinds.clone(), rows.clone(), arcs.clone());
+        let (mut l, mut s, mut b) = (kinds.clone(), rows.clone(), arcs.clone());
+        let answer = library::compile(&plan, &mut k, &mut r, &mut a);
+        assert_eq!(answer, paper::compile(&plan, &mut l, &mut s, &mut b), "{plan:?}");
+        assert_eq!((&k, &r, &a), (&l, &s, &b), "{plan:?}");
+        if answer.is_err() {
+            assert_eq!((k, r, a), (kinds, rows, arcs), "{plan:?}");
+        }
+        table.note("compile", answer.map(|Made { .. }| "made"));
+    }
+}
+
+fn replaying(random: &mut Random, table: &mut Table, inputs: usize) {
+    for round in 0..inputs {
+        let mut plan = plan(random);
+        if random.chance(1, 10) {
+            random::damage(random, &mut plan);
+        }
+        let net = paper::net_of(&plan);
+        let mut record = match &net {
+            Ok(net) => {
+                let steps = random.below(if round % 50 == 0 { 400 } else { 30 });
+                random::record(random, net, steps, 24)
+            }
+            Err(_) => vec![],
+        };
+        if random.chance(1, 12) {
+            random::damage(random, &mut record);
+        }
+        if random.chance(1, 100) {
+            record.resize(random.between(limit::RECORD, limit::RECORD + 1), PAST);
+        }
+        let places = net.as_ref().map_or(4, |net| net.kinds.len());
+        let length = match random.below(30) {
+            0 => places - 1,
+            1..=9 => places + 5,
+            _ => places,
+        };
+        let marking = vec![PAST; length];
+        let (mut ours, mut theirs) = (marking.clone(), marking.clone());
+        let answer = library::replay(&plan, &record, &mut theirs);
+        assert_eq!(answer, paper::replay(&plan, &record, &mut ours), "{plan:?} {record:?}");
+        assert_eq!(theirs, ours, "{plan:?} {record:?}");
+        if let Ok(net) = &net {
+            if length >= places && record.len() <= limit::RECORD {
+                let expr = Expr::of(&Plan::read(&plan).unwrap());
+                let rules = calculus::replay(&expr, &record);
+                let steps = answer.map_or_else(|stopped| stopped.steps, |run| run.steps);
+                let finished = net.is_finished(&theirs);
+                assert_eq!((steps, finished), (rules.steps, rules.finished), "{plan:?}");
+            }
+        }
+        let refused = |stopped: Stopped| stopped.refused;
+        let heading = |finished| if finished { "finished" } else { "unfinished" };
+        table.note("replay", answer.map(|run| heading(run.finished)).map_err(refused));
+    }
 }
 
 /// A net of a plan with the marking after some steps, or any net; at times
@@ -131,86 +207,5 @@ fn listing(random: &mut Random, table: &mut Table, inputs: usize) {
         assert_eq!(theirs, ours, "{net:?} {marking:?}");
         let heading = |count| if count == 0 { "stuck" } else { "enabled" };
         table.note("enabled", answer.map(|enabled| heading(enabled.count())));
-    }
-}
-
-mod whole {
-    use super::*;
-    use fuuqidhel::paper::calculus;
-    use fuuqidhel::paper::expr::Expr;
-    use fuuqidhel::paper::plan::Plan;
-    use fuuqidhel::{limit, Made, Refused};
-
-    pub fn compiling(random: &mut Random, table: &mut Table, inputs: usize) {
-        for _ in 0..inputs {
-            let mut plan = plan(random);
-            if random.chance(2, 5) {
-                random::damage(random, &mut plan);
-            }
-            let needed = paper::net_of(&plan).map_or(Counts::default(), |net| net.counts());
-            let mut length = |needed: usize| match random.below(20) {
-                0 => needed.saturating_sub(1),
-                1 => needed + 3,
-                _ => needed,
-            };
-            let kinds = vec![PAST; length(needed.places)];
-            let rows = vec![u16::from(PAST); length(6 * needed.transitions)];
-            let arcs = vec![u16::from(PAST); length(needed.arcs)];
-            let (mut k, mut r, mut a) = (kinds.clone(), rows.clone(), arcs.clone());
-            let (mut l, mut s, mut b) = (kinds.clone(), rows.clone(), arcs.clone());
-            let answer = library::compile(&plan, &mut k, &mut r, &mut a);
-            assert_eq!(answer, paper::compile(&plan, &mut l, &mut s, &mut b), "{plan:?}");
-            assert_eq!((&k, &r, &a), (&l, &s, &b), "{plan:?}");
-            if answer.is_err() {
-                assert_eq!((k, r, a), (kinds, rows, arcs), "{plan:?}");
-            }
-            table.note("compile", answer.map(|Made { .. }| "made"));
-        }
-    }
-
-    pub fn replaying(random: &mut Random, table: &mut Table, inputs: usize) {
-        for round in 0..inputs {
-            let mut plan = plan(random);
-            if random.chance(1, 10) {
-                random::damage(random, &mut plan);
-            }
-            let net = paper::net_of(&plan);
-            let mut record = match &net {
-                Ok(net) => {
-                    let steps = random.below(if round % 50 == 0 { 400 } else { 30 });
-                    random::record(random, net, steps, 24)
-                }
-                Err(_) => vec![],
-            };
-            if random.chance(1, 12) {
-                random::damage(random, &mut record);
-            }
-            if random.chance(1, 100) {
-                record.resize(random.between(limit::RECORD, limit::RECORD + 1), PAST);
-            }
-            let places = net.as_ref().map_or(4, |net| net.kinds.len());
-            let length = match random.below(30) {
-                0 => places - 1,
-                1..=9 => places + 5,
-                _ => places,
-            };
-            let marking = vec![PAST; length];
-            let (mut ours, mut theirs) = (marking.clone(), marking.clone());
-            let answer = library::replay(&plan, &record, &mut theirs);
-            assert_eq!(answer, paper::replay(&plan, &record, &mut ours), "{plan:?} {record:?}");
-            assert_eq!(theirs, ours, "{plan:?} {record:?}");
-            if let Ok(net) = &net {
-                if length >= places && record.len() <= limit::RECORD {
-                    let expr = Expr::of(&Plan::read(&plan).unwrap());
-                    let rules = calculus::replay(&expr, &record);
-                    let steps = answer.map_or_else(|stopped| stopped.steps, |run| run.steps);
-                    let finished = net.is_finished(&theirs);
-                    assert_eq!((steps, finished), (rules.steps, rules.finished), "{plan:?}");
-                }
-            }
-            let refused = |stopped: fuuqidhel::Stopped| -> Refused { stopped.refused };
-            let heading = |finished| if finished { "finished" } else { "unfinished" };
-            table.note("replay", answer.map(|run| heading(run.finished)).map_err(refused));
-        }
     }
 }

@@ -1,5 +1,28 @@
 //! The proved library: its calls on lent slices, and [`Net`]'s methods over
 //! them. No call panics, whatever it is lent, and none allocates but `Net`'s.
+//!
+//! ```
+//! use fuuqidhel::{library, Net, Reason};
+//!
+//! // (a‖b);c
+//! let plan = [2, 0, 15, 4, 0, 8, 1, 0, 1, 1, 1, 0, 1, 2, 1, 0, 1, 3];
+//! let net = Net::compile(&plan)?;
+//! let mut marking = net.entry_marking();
+//! assert_eq!(net.enabled(&marking)?, [0, 1]);
+//!
+//! let c = [0x20, 0, 4, 0x21, 0, 1, 2];
+//! let refused = net.fire(&c, &mut marking).unwrap_err();
+//! assert_eq!((refused.reason, refused.number()), (Reason::InputEmpty, 32));
+//!
+//! let both = [0x20, 0, 8, 0x21, 0, 1, 0, 0x21, 0, 1, 1];
+//! net.fire(&both, &mut marking)?;
+//! net.fire(&c, &mut marking)?;
+//! assert!(net.is_finished(&marking));
+//!
+//! let run = library::replay(&plan, &[&both[..], &c].concat(), &mut marking)?;
+//! assert_eq!((run.steps, run.finished), (2, true));
+//! # Ok::<(), Box<dyn std::error::Error>>(())
+//! ```
 
 #[allow(unsafe_code)]
 mod raw;

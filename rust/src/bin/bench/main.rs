@@ -7,7 +7,7 @@
 //! bounds, and each side's bytes per second and nanoseconds per item. Bytes
 //! are those that a call is lent to read. Items are a plan's actions for
 //! compile, a record's or a step's items for replay and fire, and a net's
-//! transitions for enabled.
+//! transitions for enabled. Firing includes putting the marking back.
 
 mod cases;
 mod inputs;
