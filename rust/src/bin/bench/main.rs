@@ -3,11 +3,11 @@
 //!
 //! `bench [milliseconds of a sample] [samples]`. A line has, for one call on
 //! one input, the median time of each side, the median of the ratios library
-//! to paper of neighbouring samples with the lowest and the highest quarter's
-//! bounds, and each side's bytes per second and nanoseconds per item. Bytes
-//! are those that a call is lent to read. Items are a plan's actions for
-//! compile, a record's or a step's items for replay and fire, and a net's
-//! transitions for enabled. Firing includes putting the marking back.
+//! to paper of neighbouring samples with the bounds of its middle half, and
+//! each side's bytes per second and nanoseconds per item. Time is that on a
+//! core. Bytes are those that a call is lent to read. Items are a plan's
+//! actions for compile, a record's or a step's items for replay and fire, and
+//! a net's transitions for enabled. Firing includes putting the marking back.
 
 mod cases;
 mod inputs;
@@ -21,7 +21,7 @@ fn main() {
     let mut numbers = std::env::args().skip(1).map(|word| word.parse().expect("a number"));
     let settings = Settings {
         milliseconds: numbers.next().unwrap_or(10),
-        samples: numbers.next().unwrap_or(21),
+        samples: numbers.next().unwrap_or(31),
     };
     println!("library / paper");
     line(["call", "input", "ns", "ratio (quarters)", "MB/s", "ns/item"].map(String::from));

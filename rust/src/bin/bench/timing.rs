@@ -1,5 +1,7 @@
 //! Samples of the two sides, taken by turns.
 
+use std::fs;
+use std::thread;
 use std::time::Instant;
 
 use crate::cases::{Case, Turns};
@@ -40,9 +42,21 @@ impl Settings {
 }
 
 fn sample(side: &mut Turns<'_>, turns: usize) -> f64 {
-    let start = Instant::now();
+    let (ran, start) = (time_on_core(), Instant::now());
     side(turns);
-    start.elapsed().as_nanos() as f64 / turns as f64
+    let time = match (ran, time_on_core()) {
+        (Some(before), Some(after)) => after - before,
+        _ => start.elapsed().as_nanos() as u64,
+    };
+    time as f64 / turns as f64
+}
+
+/// Nanoseconds that this thread has had a core, where the system tells: other
+/// work beside it then counts little. Yielding brings the number up to date.
+fn time_on_core() -> Option<u64> {
+    thread::yield_now();
+    let line = fs::read_to_string("/proc/thread-self/schedstat").ok()?;
+    line.split_whitespace().next()?.parse().ok()
 }
 
 /// The values below which a quarter, a half and three quarters lie.
