@@ -1,23 +1,24 @@
-//! Plans, their nets and run records, written from the paper alone.
+//! Plans, their nets, steps and run records.
 //!
-//! A plan is read from bytes ([`plan`]), turned into its net ([`net`]), fired
-//! step by step on lent tables ([`fire`]) and replayed against a record
-//! ([`replay`]). A second replay ([`calculus`]) follows the rules that use no
-//! net; [`class`] follows the same rules with no normal form at all.
+//! With the feature `library` this crate calls the proved library:
+//! [`library::compile`], [`library::fire`], [`library::enabled`] and
+//! [`library::replay`] on lent slices, and [`Net`] with its own tables.
+//! Without it, only [`paper`] is there: the same calls, written a second time
+//! from the paper alone, against which the library is tested and timed.
+//!
+//! A refusal is an `Err` with the paper's reason and what it carries
+//! ([`Refused`]); a refused replay tells the accepted steps too ([`Stopped`]).
 
-#![forbid(unsafe_code)]
+#![deny(unsafe_code)]
 #![deny(missing_docs)]
 
-pub mod calculus;
-pub mod class;
-pub mod fire;
-pub mod image;
+pub mod answer;
+#[cfg(feature = "library")]
+pub mod library;
 pub mod limit;
-pub mod net;
-pub mod plan;
+pub mod paper;
 pub mod random;
-pub mod record;
-pub mod refused;
-pub mod replay;
+pub mod tables;
 
-pub use refused::Refused;
+pub use answer::{Enabled, Reason, Refused, Replayed, Stopped};
+pub use tables::{Counts, Made, Net, Tables, Transition};
