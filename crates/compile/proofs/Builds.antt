@@ -35,7 +35,7 @@ use Rattle.boxes.specs.Counts.{place-count, transition-count}
 use Rattle.boxes.specs.NodeCounts.{node-counts}
 use Rattle.boxes.specs.Compile.{Counts, counts-of, accept}
 use Rattle.boxes.proofs.CountsCutOff.{place-count-is, arc-count-is}
-use Rattle.transitions.specs.Numbers.{flat}
+use Rattle.transitions.specs.Numbers.{flat, most}
 use Rattle.transitions.specs.Listing.{Part}
 use Rattle.transitions.proofs.FlatNumbers.{flat-length, label-at, first-at, second-at, part-behind}
 use Rattle.arcs.specs.Asked.{Acts}
@@ -43,11 +43,11 @@ use Rattle.arcs.proofs.Transitions.{item-of-one, item-of-two}
 use Rattle.arcs.proofs.Sizes.{counts-here}
 use Rattle.arcs.proofs.AskedMet.{table-length, counted-in-front}
 use Rattle.compile.specs.Judged.{check-places, check-transitions, check-arcs, judge, judged}
-use Rattle.compile.specs.Ready.{Sizes, ready-sizes, ready, front-says, TablesAre}
+use Rattle.compile.specs.Ready.{Sizes, ready-sizes, ready, FrontSays, TablesAre}
 use Rattle.compile.specs.Rows.{item-at, listed-at, listed-from, Put, OfAll, Whole, AskedAll, made}
 use Rattle.compile.specs.Built.{counted, plan-counts, WorkIs, MadeOf}
 use Rattle.compile.specs.declared.front.Judgement.{Judgement}
-use Rattle.compile.specs.declared.front.Judgement.the-variants.{Refused, Ready}
+use Rattle.compile.specs.declared.front.Judgement.the-variants.{Refused, Ready, NoRoom}
 use Rattle.compile.proofs.Judges.{leb-cut, leb-is-true, leb-is-false, counts-first, accept-judged}
 
 -- ---- the rows and arcs that were put are those of the net
@@ -180,12 +180,13 @@ asked-12 plan E e =
     let (x, b, i) = bind-good (check-transitions F) _ E h in
     subst (Asked12 plan) (good-same F E i) (record { read = p; places-few = few-places F a; transitions-few = few-transitions F b })
 
-pub is-ready : (plan : List ℕ) (nodes many : ℕ) (table table′ counts counts′ list list′ : List ℕ) (r : Judgement) → front-says r ≡ ready plan
-    → TablesAre (judged plan) table table′ counts counts′ list list′ → r ≡ Ready nodes many → IsReady plan nodes many table′ counts′ list′
+pub is-ready : (plan : List ℕ) (nodes many : ℕ) (table table′ counts counts′ list′ : List ℕ) (long : ℕ) (r : Judgement) → FrontSays r (ready plan) long
+    → TablesAre r (judged plan) table table′ counts counts′ list′ → r ≡ Ready nodes many → IsReady plan nodes many table′ counts′ list′
 unfolding ready-sizes
-is-ready plan nodes many table table′ counts counts′ list list′ r s w e = go (judged plan) refl (sym (ap front-says e) ∙ s) w
+is-ready plan nodes many table table′ counts counts′ list′ long r s w e =
+    go (judged plan) refl (subst (λ q. FrontSays q (ready plan) long) e s) (subst (λ q. TablesAre q (judged plan) table table′ counts counts′ list′) e w)
   where
-    go : (a : Answer Expr) → judged plan ≡ a → good (record { nodes = nodes; transitions = many }) ≡ (a >>= λ E. good (ready-sizes E)) → TablesAre a table table′ counts counts′ list list′
+    go : (a : Answer Expr) → judged plan ≡ a → good (record { nodes = nodes; transitions = many }) ≡ (a >>= λ E. good (ready-sizes E)) → TablesAre (Ready nodes many) a table table′ counts counts′ list′
         → IsReady plan nodes many table′ counts′ list′
     go (refused n c) p f w = good-not-refused _ _ n c (sym f) refl
     go (good E) p f w =
@@ -193,7 +194,7 @@ is-ready plan nodes many table table′ counts counts′ list list′ r s w e = 
         let low : actions E ≤ 256 = limits-within E (read-within plan E (a .read)) .few in
         let ns : nodes ≡ node-count E = ap (λ z. z .nodes) (good-same _ _ f) in
         let ms : many ≡ length (transitions 0 E) = ap (λ z. z .transitions) (good-same _ _ f) in
-        let part : Part list′ 0 many (transitions 0 E) = record { count = omega arith; stands = stands-take list′ (3 * many) (flat (transitions 0 E)) (ap (take (3 * many)) (w .2) ∙ take-at (flat (transitions 0 E)) _ (3 * many) (omega (arith, flat-length (transitions 0 E)))) } in
+        let part : Part list′ 0 many (transitions 0 E) = record { count = omega arith; stands = stands-take list′ (3 * many) (flat (transitions 0 E)) (ap (λ k. take (3 * k) list′) ms ∙ w .2) } in
         let listed : listed-from list′ 0 many ≡ transitions 0 E =
         ap (listed-from list′ 0) ms ∙ listed-back list′ (0 + actions E) (omega arith) 0 many (transitions 0 E) (items-in-range 0 E) part in
         record {
@@ -214,14 +215,20 @@ is-ready plan nodes many table table′ counts counts′ list list′ r s w e = 
         }
 
 -- ---- the answers of the whole
-pub not-ready : (plan : List ℕ) (n c : ℕ) (rows arcs : List ℕ) (r : Judgement) → front-says r ≡ ready plan → r ≡ Refused n c → (refused n c ≡ plan-counts plan) × WorkIs (accept plan) rows arcs
+pub not-ready : (plan : List ℕ) (n c : ℕ) (rows arcs : List ℕ) (long : ℕ) (r : Judgement) → FrontSays r (ready plan) long → r ≡ Refused n c → (refused n c ≡ plan-counts plan) × WorkIs (accept plan) rows arcs
 unfolding plan-counts
-not-ready plan n c rows arcs r s e = rw (accept-judged plan) (go (judged plan) (sym (ap front-says e) ∙ s))
+not-ready plan n c rows arcs long r s e = rw (accept-judged plan) (go (judged plan) (subst (λ q. FrontSays q (ready plan) long) e s))
   where
     go : (a : Answer Expr) → refused n c ≡ (a >>= λ E. good (ready-sizes E))
         → (refused n c ≡ ((a >>= λ E. check-arcs E >> good E) >>= λ E. good (counts-of (net-of E)))) × WorkIs (a >>= λ E. check-arcs E >> good E) rows arcs
     go (good E) f = good-not-refused _ _ n c refl (sym f)
     go (refused m d) f = let p : n ≡ m = cc in let q : c ≡ d = cc in ((λ k. refused (p k) (q k)), tt)
+
+-- A list that has room for the most is never too short.
+pub never-short : {A : Type 0} (plan : List ℕ) (long : ℕ) (r : Judgement) → FrontSays r (ready plan) long → r ≡ NoRoom → 3 * most ≤ long → A
+never-short plan long r s e h =
+    let w : FrontSays NoRoom (ready plan) long = subst (λ q. FrontSays q (ready plan) long) e s in
+    absurd (omega arith)
 
 module _ (plan : List ℕ) (E : Expr) (passed : judged plan ≡ good E) (answer : Answer Counts) (rows arcs : List ℕ) (m : MadeOf E answer rows arcs) where
   accept-is : accept plan ≡ (check-arcs E >> good E)

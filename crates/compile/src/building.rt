@@ -76,6 +76,8 @@ pub fn build(plan: &[u8], rows: &mut [u16; 6144], arcs: &mut [u16; 16384]) -> Co
     let mut list = [0u16; 3840];
     match front(plan, &mut table, &mut counts, &mut list) {
         Judgement::Refused(number, carried) => Compiling::Refused(number, carried),
+        // The list has room for the most that can be listed.
+        Judgement::NoRoom => Compiling::Refused(field::TOO_MANY_TRANSITIONS, 0),
         Judgement::Ready { nodes, transitions } => {
             make_net(&table, nodes, &counts, &list, transitions, rows, arcs)
         }
