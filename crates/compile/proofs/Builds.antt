@@ -37,7 +37,7 @@ use Rattle.boxes.specs.Compile.{Counts, counts-of, accept}
 use Rattle.boxes.proofs.CountsCutOff.{place-count-is, arc-count-is}
 use Rattle.transitions.specs.Numbers.{flat, most}
 use Rattle.transitions.specs.Listing.{Part}
-use Rattle.transitions.proofs.FlatNumbers.{flat-length, label-at, first-at, second-at, part-behind}
+use Rattle.transitions.proofs.FlatNumbers.{label-at, first-at, second-at, part-behind}
 use Rattle.arcs.specs.Asked.{Acts}
 use Rattle.arcs.proofs.Transitions.{item-of-one, item-of-two}
 use Rattle.arcs.proofs.Sizes.{counts-here}

@@ -1,7 +1,7 @@
 -- 01, "Net tables": a transition's "label, first action, second action or 65,535"; and what the list of a plan's transitions is to be.
 use Prim.Native.Nat.{ℕ, _+_, _*_, _≤_, _<_}
 use mathlib.Core.Path.{_≡_}
-use mathlib.Core.List.{List, [], _∷_, _++_}
+use mathlib.Core.List.{List, [], _∷_}
 use lib.ListN.{length, take}
 use Rattle.field.specs.Limits.{action-limit, transition-limit}
 use Rattle.algebra.specs.Item.{Item, one, two, first}

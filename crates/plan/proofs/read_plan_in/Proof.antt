@@ -1,8 +1,6 @@
 -- `plan::read_plan_in` meets its contract: `read_operands` at the whole plan, one operand and no node yet, by the laws of `WholePlan`.
 -- Assumes nothing.
-use Prim.Native.Nat.{_*_, _≤_}
 use native.Mathlib.Omega.{arith}
-use lib.ListN.{length}
 use borrow.Author.Needs.{needs}
 use Rattle.plan.proofs.WholePlan.{plan-over-limit, plan-refused, plan-accepted}
 use Rattle.plan.proofs.read_plan_in.Statement.{statement}

@@ -1,6 +1,5 @@
 -- `list_few` meets its contract: the list's answer tells how many transitions there are, or that it had no room.
 -- Assumes nothing.
-use Prim.Native.Nat.{_*_, _<_}
 use native.Mathlib.Omega.{arith}
 use mathlib.Core.Path.{subst}
 use lib.ListN.{length}
