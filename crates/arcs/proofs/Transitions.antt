@@ -74,7 +74,7 @@ module _ (rows : List ℕ) (nodes : ℕ) (counts : List ℕ) (i : ℕ) where
     few = o .few;
   }
 
-  pub asks-root : length rows ≡ 8196 → Asked rows nodes counts (one i) → Asks rows counts 0 i
+  pub asks-root : length rows ≤ 8196 → Asked rows nodes counts (one i) → Asks rows counts 0 i
   asks-root long a =
       record { count = nodes; n = 0; E = a .E; inside = at-root (a .E) (a .of); within = omega (arith, table-within (a .of .table)) }
 

@@ -13,6 +13,7 @@ use crate::search::counts_at;
 use crate::search::find;
 use crate::widen::stretch;
 ghost use mathlib.Core.Path.{_≡_};
+ghost use Prim.Native.Nat.{_≤_};
 ghost use lib.ListN.{length};
 ghost use Rattle.algebra.specs.Expr.{Expr};
 ghost use Rattle.algebra.specs.Item.{one, two};
@@ -34,17 +35,16 @@ fn numbers_in(s: &[u16]) -> usize
 
 // The input or output places of action i, rising.
 pub fn arcs_of_action(
-    rows: &[u16; 8196],
+    rows: &[u16],
     nodes: usize,
-    counts: &[u16; 4098],
+    counts: &[u16],
     i: usize,
     side: Side,
     out: &mut [u16; 2048],
 ) -> usize
-    requires { ⌜ Asked (now rows) nodes (now counts) (one i) ⌝ }
+    requires { ⌜ Asked (now rows) nodes (now counts) (one i) × (length (now rows) ≤ 8196) ⌝ }
     ensures { λ r. ⌜ ((E : Expr) → Of (now (rows .entry)) nodes (now (counts .entry)) (one i) E → Begins (now (out .exit)) r (numbers (passes side i) 0 (places 0 E))) ⌝ }
 {
-    numbers_in(rows);
     numbers_in(out);
     let found = find(rows, counts, 0, i, side, out);
     let kind = found.kind;
@@ -56,9 +56,9 @@ pub fn arcs_of_action(
 
 // Of a joined transition: "It has both input sets and both output sets." Two arrays are lent as work room, so that none is cleared here.
 fn arcs_of_two(
-    rows: &[u16; 8196],
+    rows: &[u16],
     nodes: usize,
-    counts: &[u16; 4098],
+    counts: &[u16],
     i: usize,
     j: usize,
     side: Side,
@@ -66,7 +66,7 @@ fn arcs_of_two(
     second: &mut [u16; 2048],
     out: &mut [u16; 2048],
 ) -> usize
-    requires { ⌜ Asked (now rows) nodes (now counts) (two i j) ⌝ }
+    requires { ⌜ Asked (now rows) nodes (now counts) (two i j) × (length (now rows) ≤ 8196) ⌝ }
     ensures { λ r. ⌜ ((E : Expr) → Of (now (rows .entry)) nodes (now (counts .entry)) (two i j) E → Begins (now (out .exit)) r (numbers (by-item (passes side) (two i j)) 0 (places 0 E))) ⌝ }
 {
     let a = arcs_of_action(rows, nodes, counts, i, side, first);
@@ -77,9 +77,9 @@ fn arcs_of_two(
 
 // The input or output places of the transition of a first action and a second, or 65,535, rising. `left` and `right` are work room.
 pub fn arcs_of_item(
-    rows: &[u16; 8196],
+    rows: &[u16],
     nodes: usize,
-    counts: &[u16; 4098],
+    counts: &[u16],
     first: usize,
     second: usize,
     side: Side,
@@ -87,7 +87,7 @@ pub fn arcs_of_item(
     right: &mut [u16; 2048],
     out: &mut [u16; 2048],
 ) -> usize
-    requires { ⌜ Asked (now rows) nodes (now counts) (item-of first second) ⌝ }
+    requires { ⌜ Asked (now rows) nodes (now counts) (item-of first second) × (length (now rows) ≤ 8196) ⌝ }
     ensures { λ r. ⌜ ((E : Expr) → Of (now (rows .entry)) nodes (now (counts .entry)) (item-of first second) E → Begins (now (out .exit)) r (numbers (by-item (passes side) (item-of first second)) 0 (places 0 E))) ⌝ }
 {
     if second == NONE {

@@ -12,8 +12,8 @@ use plan::tags::SEQUENCE;
 use plan::tags::TAG;
 ghost use mathlib.Core.Path.{_≡_};
 ghost use mathlib.Core.List.{_++_};
-ghost use Prim.Native.Nat.{_*_, _≤_, _<_};
-ghost use lib.ListN.{drop};
+ghost use Prim.Native.Nat.{_+_, _*_, _≤_};
+ghost use lib.ListN.{length, drop};
 ghost use Rattle.field.specs.Limits.{place-limit};
 ghost use Rattle.algebra.specs.Expr.{Expr};
 ghost use Rattle.plan.specs.Table.{Table};
@@ -134,8 +134,8 @@ fn counts_of(rows: &[u16], k: usize, counts: &[u16]) -> Counts
 }
 
 // Writes the counts of node k.
-fn store(counts: &mut [u16; 4098], k: usize, c: Counts)
-    requires { ⌜ (k < 1366) × Small c ⌝ }
+fn store(counts: &mut [u16], k: usize, c: Counts)
+    requires { ⌜ (3 * k + 3 ≤ length (now counts)) × Small c ⌝ }
     ensures { λ _. ⌜ now (counts .exit) ≡ stored (now (counts .entry)) k c ⌝ }
 {
     counts[3 * k] = c.entries as u16;
@@ -144,8 +144,8 @@ fn store(counts: &mut [u16; 4098], k: usize, c: Counts)
 }
 
 // Counts the nodes below k, where those from k on are counted.
-fn count(rows: &[u16], k: usize, counts: &mut [u16; 4098])
-    requires { ⌜ k ≤ 1366 ⌝ }
+fn count(rows: &[u16], k: usize, counts: &mut [u16])
+    requires { ⌜ (k ≤ 1366) × (3 * k ≤ length (now counts)) ⌝ }
     ensures { λ _. ⌜ Counted (now (rows .entry)) k (now (counts .entry)) (now (counts .exit)) ⌝ }
 {
     if k == 0 {
@@ -158,8 +158,8 @@ fn count(rows: &[u16], k: usize, counts: &mut [u16; 4098])
 }
 
 // The counts of every node of the plan whose node table the rows begin with; what lies behind them is not written.
-pub fn count_places(rows: &[u16; 8196], nodes: usize, counts: &mut [u16; 4098])
-    requires { ⌜ nodes ≤ 1366 ⌝ }
+pub fn count_places(rows: &[u16], nodes: usize, counts: &mut [u16])
+    requires { ⌜ (nodes ≤ 1366) × (3 * nodes ≤ length (now counts)) ⌝ }
     ensures { λ _. ⌜ ((E : Expr) → Table (now (rows .entry)) nodes E → now (counts .exit) ≡ node-counts E ++ drop (3 * nodes) (now (counts .entry))) ⌝ }
 {
     count(rows, nodes, counts);

@@ -7,7 +7,7 @@ use native.Mathlib.Decide.{decLt}
 use mathlib.Core.Path.{_≡_, refl, sym, _∙_, ap, ap₂, subst}
 use mathlib.Core.Bool.{Bool, true, false}
 use mathlib.Core.List.{List, [], _∷_, _++_, map, List·Memᴰ, List·Memᴰ·head, List·Memᴰ·tail}
-use lib.ListN.{length, getD, take, drop, length-map}
+use lib.ListN.{length, getD, take, drop, length-map, length-take}
 use lib.Seq.{sets, sets-eq, take-at}
 use lib.Dec.{leb, eqb}
 use borrow.Author.Tests.{leb-true, leb-false}
@@ -35,7 +35,7 @@ use Rattle.boxes.specs.Counts.{place-count, transition-count}
 use Rattle.boxes.specs.NodeCounts.{node-counts}
 use Rattle.boxes.specs.Compile.{Counts, counts-of, accept}
 use Rattle.boxes.proofs.CountsCutOff.{place-count-is, arc-count-is}
-use Rattle.transitions.specs.Numbers.{flat}
+use Rattle.transitions.specs.Numbers.{flat, most}
 use Rattle.transitions.specs.Listing.{Part}
 use Rattle.transitions.proofs.FlatNumbers.{flat-length, label-at, first-at, second-at, part-behind}
 use Rattle.arcs.specs.Asked.{Acts}
@@ -43,13 +43,13 @@ use Rattle.arcs.proofs.Transitions.{item-of-one, item-of-two}
 use Rattle.arcs.proofs.Sizes.{counts-here}
 use Rattle.arcs.proofs.AskedMet.{table-length, counted-in-front}
 use Rattle.compile.specs.Judged.{check-places, check-transitions, check-arcs, judge, judged}
-use Rattle.compile.specs.Ready.{Sizes, ready-sizes, ready, front-says, TablesAre}
+use Rattle.compile.specs.Ready.{Sizes, ready-sizes, ready, FrontSays, TablesAre}
 use Rattle.compile.specs.Rows.{item-at, listed-at, listed-from, Put, OfAll, Whole, AskedAll, made}
-use Rattle.compile.specs.Built.{counted, Told, Begin, MadeOf, BuiltIs}
+use Rattle.compile.specs.Built.{counted, Told, Begin, MadeOf, BuiltIs, ShortIs}
 use Rattle.compile.specs.declared.building.Built.{Built}
 use Rattle.compile.specs.declared.building.Built.the-variants as built
 use Rattle.compile.specs.declared.front.Judgement.{Judgement}
-use Rattle.compile.specs.declared.front.Judgement.the-variants.{Refused, Ready}
+use Rattle.compile.specs.declared.front.Judgement.the-variants.{Refused, Ready, NoRoom}
 use Rattle.compile.proofs.Judges.{leb-cut, leb-is-true, leb-is-false, counts-first, accept-judged}
 
 -- ---- the rows and arcs that were put are those of the net
@@ -159,6 +159,7 @@ pub record IsReady (plan : List ℕ) (nodes many : ℕ) (table counts list : Lis
   pub passed : judged plan ≡ good expr
   pub whole : Whole table nodes counts list many expr
   pub few : many ≤ 1024
+  pub room : 3 * many ≤ length list
 
 -- what the judgement has asked
 pub record Asked12 (plan : List ℕ) (E : Expr) : Type 0 where
@@ -191,12 +192,13 @@ asked-12 plan E e =
     let (x, b, i) = bind-good (check-transitions F) _ E h in
     subst (Asked12 plan) (good-same F E i) (record { read = p; places-few = few-places F a; transitions-few = few-transitions F b })
 
-pub is-ready : (plan : List ℕ) (nodes many : ℕ) (table table′ counts counts′ list list′ : List ℕ) (r : Judgement) → front-says r ≡ ready plan
-    → TablesAre (judged plan) table table′ counts counts′ list list′ → r ≡ Ready nodes many → IsReady plan nodes many table′ counts′ list′
+pub is-ready : (plan : List ℕ) (nodes many : ℕ) (table table′ counts counts′ list′ : List ℕ) (long : ℕ) (r : Judgement) → FrontSays r (ready plan) long
+    → TablesAre r (judged plan) table table′ counts counts′ list′ → r ≡ Ready nodes many → IsReady plan nodes many table′ counts′ list′
 unfolding ready-sizes
-is-ready plan nodes many table table′ counts counts′ list list′ r s w e = go (judged plan) refl (sym (ap front-says e) ∙ s) w
+is-ready plan nodes many table table′ counts counts′ list′ long r s w e =
+    go (judged plan) refl (subst (λ q. FrontSays q (ready plan) long) e s) (subst (λ q. TablesAre q (judged plan) table table′ counts counts′ list′) e w)
   where
-    go : (a : Answer Expr) → judged plan ≡ a → good (record { nodes = nodes; transitions = many }) ≡ (a >>= λ E. good (ready-sizes E)) → TablesAre a table table′ counts counts′ list list′
+    go : (a : Answer Expr) → judged plan ≡ a → good (record { nodes = nodes; transitions = many }) ≡ (a >>= λ E. good (ready-sizes E)) → TablesAre (Ready nodes many) a table table′ counts counts′ list′
         → IsReady plan nodes many table′ counts′ list′
     go (refused n c) p f w = good-not-refused _ _ n c (sym f) refl
     go (good E) p f w =
@@ -204,7 +206,8 @@ is-ready plan nodes many table table′ counts counts′ list list′ r s w e = 
         let low : actions E ≤ 256 = limits-within E (read-within plan E (a .read)) .few in
         let ns : nodes ≡ node-count E = ap (λ z. z .nodes) (good-same _ _ f) in
         let ms : many ≡ length (transitions 0 E) = ap (λ z. z .transitions) (good-same _ _ f) in
-        let part : Part list′ 0 many (transitions 0 E) = record { count = omega arith; stands = stands-take list′ (3 * many) (flat (transitions 0 E)) (ap (take (3 * many)) (w .2) ∙ take-at (flat (transitions 0 E)) _ (3 * many) (omega (arith, flat-length (transitions 0 E)))) } in
+        let front : take (3 * many) list′ ≡ flat (transitions 0 E) = ap (λ k. take (3 * k) list′) ms ∙ w .2 in
+        let part : Part list′ 0 many (transitions 0 E) = record { count = omega arith; stands = stands-take list′ (3 * many) (flat (transitions 0 E)) front } in
         let listed : listed-from list′ 0 many ≡ transitions 0 E =
         ap (listed-from list′ 0) ms ∙ listed-back list′ (0 + actions E) (omega arith) 0 many (transitions 0 E) (items-in-range 0 E) part in
         record {
@@ -222,15 +225,20 @@ is-ready plan nodes many table table′ counts counts′ list list′ r s w e = 
             listed = listed;
           };
           few = omega (arith, a .transitions-few);
+          room = omega (arith, length-take (3 * many) list′, ap length front, flat-length (transitions 0 E));
         }
 
 -- ---- the answers of the whole
-pub not-ready : (plan : List ℕ) (n c : ℕ) (r : Judgement) → front-says r ≡ ready plan → r ≡ Refused n c → accept plan ≡ refused n c
-not-ready plan n c r s e = accept-judged plan ∙ go (judged plan) (sym (ap front-says e) ∙ s)
+pub not-ready : (plan : List ℕ) (n c : ℕ) (long : ℕ) (r : Judgement) → FrontSays r (ready plan) long → r ≡ Refused n c → accept plan ≡ refused n c
+not-ready plan n c long r s e = accept-judged plan ∙ go (judged plan) (subst (λ q. FrontSays q (ready plan) long) e s)
   where
     go : (a : Answer Expr) → refused n c ≡ (a >>= λ E. good (ready-sizes E)) → (a >>= λ E. check-arcs E >> good E) ≡ refused n c
     go (good E) f = good-not-refused _ _ n c refl (sym f)
     go (refused m d) f = let p : n ≡ m = cc in let q : c ≡ d = cc in λ k. refused (sym p k) (sym q k)
+
+-- Where the list is said to be short, it is.
+pub list-short : (plan : List ℕ) (long : ℕ) (r : Judgement) → FrontSays r (ready plan) long → r ≡ NoRoom → long < 3 * most
+list-short plan long r s e = subst (λ q. FrontSays q (ready plan) long) e s
 
 pub net-built : (plan : List ℕ) (E : Expr) → judged plan ≡ good E → (b : Built) (rows arcs : List ℕ) → MadeOf E b rows arcs → BuiltIs plan b rows arcs
 net-built plan E passed b rows arcs m = go b m
@@ -242,3 +250,9 @@ net-built plan E passed b rows arcs m = go b m
     go (built.Refused n c) m = accept-is ∙ ap (λ a. a >> good E) m
     go built.NoRoom m = m
     go (built.Made ps n count es is) m = record { expr = E; accepts = accept-is ∙ ap (λ a. a >> good E) (m .0); told = m .1; begin = m .2 }
+
+-- An answer with counts is no lack of room, and room is short by the lengths lent, which stay.
+pub told-room : (table : List ℕ) (many end : ℕ) (b : Built) → Told table many end b → (list rows arcs : ℕ) → ShortIs b list rows arcs
+told-room table many end (built.Refused n c) t list rows arcs = tt
+told-room table many end built.NoRoom t list rows arcs = absurd t
+told-room table many end (built.Made ps n count es is) t list rows arcs = tt

@@ -21,7 +21,7 @@ use Rattle.boxes.specs.Compile.{Counts, counts-of, accept, Lent, Compiled, comp
 use Rattle.boxes.proofs.CountsCutOff.{size-accepted, net-places}
 use Rattle.boxes.proofs.TablesAreANet.{accepted}
 use Rattle.compile.proofs.Builds.{rows-from-length}
-use Rattle.compile.specs.Built.{counts, NetIs, BuiltIs, lent, Leaves, Same, Tries, Lends, built-says, found-room}
+use Rattle.compile.specs.Built.{counts, NetIs, BuiltIs, ShortIs, lent, Leaves, Same, Tries, Lends, built-says, found-room}
 use Rattle.compile.specs.declared.building.Built.{Built}
 use Rattle.compile.specs.declared.building.Built.the-variants as built
 
@@ -166,11 +166,12 @@ pub lends : {plan : List ℕ} {b : Built} {old : Lent} (r : Built) {kinds rows a
 lends r e f l = record { room = f ∙ sym e; tries = record { no-room = λ g. absurd (let z : _≡_ {A = ℕ} 0 1 = cc in omega arith); does = λ _. l } }
 
 -- Room for any net is never short.
-pub large-room : (plan : List ℕ) (b : Built) (rows arcs : List ℕ) → BuiltIs plan b rows arcs → length rows ≡ 6144 → length arcs ≡ 16384 → found-room b ≡ true
-large-room plan (built.Refused n c) rows arcs w r a = refl
-large-room plan built.NoRoom rows arcs (inl h) r a = absurd (omega arith)
-large-room plan built.NoRoom rows arcs (inr h) r a = absurd (omega arith)
-large-room plan (built.Made places n count entries internals) rows arcs w r a = refl
+pub large-room : (b : Built) (list rows arcs : ℕ) → ShortIs b list rows arcs → list ≡ 3840 → rows ≡ 6144 → arcs ≡ 16384 → found-room b ≡ true
+large-room (built.Refused n c) list rows arcs w l r a = refl
+large-room built.NoRoom list rows arcs (inl h) l r a = absurd (omega arith)
+large-room built.NoRoom list rows arcs (inr (inl h)) l r a = absurd (omega arith)
+large-room built.NoRoom list rows arcs (inr (inr h)) l r a = absurd (omega arith)
+large-room (built.Made places n count entries internals) list rows arcs w l r a = refl
 
 -- After a try that left all tables as they were, what is left is what is left of the tables lent.
 pub after-try : (plan kinds rows arcs k l m : List ℕ) → Same (lent kinds rows arcs) k l m → {answer : Answer Counts} {k′ l′ m′ : List ℕ} → Leaves plan (lent k l m) answer k′ l′ m′ → Leaves plan (lent kinds rows arcs) answer k′ l′ m′

@@ -9,7 +9,7 @@ use lib.ListN.{length, getD, take, drop}
 use lib.Seq.{take-at}
 use lib.Dec.{T, leb}
 use borrow.Author.Tests.{leb-true, leb-false}
-use Rattle.field.specs.Limits.{place-limit, transition-limit}
+use Rattle.field.specs.Limits.{plan-limit, place-limit, transition-limit}
 use Rattle.field.specs.Refusals.{too-many-places, too-many-transitions}
 use Rattle.field.specs.Answer.{Answer, good, refused, _>>=_, _>>_, check}
 use Rattle.field.proofs.Answers.{good-not-refused, good-same, bind-good}
@@ -24,17 +24,19 @@ use Rattle.plan.specs.declared.PlanRead.{PlanRead}
 use Rattle.plan.specs.declared.PlanRead.the-variants.{Refused, Read}
 use Rattle.plan.specs.Table.{Table, values}
 use Rattle.plan.proofs.NodeTable.{rows-length}
-use Rattle.plan.proofs.Exact.{read-within}
+use Rattle.plan.proofs.Exact.{read-within, read-length}
 use Rattle.plan.proofs.Within.{limits-within}
 use Rattle.plan.proofs.ReadBack.{encode-length}
 use Rattle.boxes.specs.Counts.{cut, entry-count, internal-count, exit-count, place-count, check-size}
 use Rattle.boxes.specs.NodeCounts.{counts-of, node-counts}
 use Rattle.boxes.specs.Compile.{accept}
-use Rattle.transitions.specs.Numbers.{flat, ListIs}
+use Rattle.transitions.specs.Numbers.{flat, most, ListIs}
 use Rattle.transitions.specs.declared.Listed.{Listed}
 use Rattle.transitions.specs.declared.Listed.the-variants.{Many, TooMany}
 use Rattle.compile.specs.Judged.{check-places, check-transitions, check-arcs, judge, judged}
-use Rattle.compile.specs.Ready.{Sizes, ready-sizes, ready, ListIsOf, CountsAreOf, TableIsOf, TablesAre, Few, Fine}
+use Rattle.compile.specs.Ready.{ready-sizes, ready, FrontSays, ListIsOf, CountsAreOf, TableIsOf, TablesAre, Few, Fine}
+use Rattle.compile.specs.declared.front.Judgement.{Judgement}
+use Rattle.compile.specs.declared.front.Judgement.the-variants as judgement
 
 -- A test of a count that is cut off is the test of the count.
 pub leb-cut : (limit n : ℕ) → leb (cut limit n) limit ≡ leb n limit
@@ -69,36 +71,34 @@ transitions-many : (E : Expr) → transition-limit < length (transitions 0 E) �
 unfolding check-transitions
 transitions-many E h = ap (λ b. check b too-many-transitions 0) (leb-cut transition-limit (length (transitions 0 E)) ∙ leb-is-false h)
 
-many-few : (E : Expr) (list list′ : List ℕ) → transition-limit < length (transitions 0 E) → Few E (refused too-many-transitions 0) list list′
-many-few E list list′ h = record {
-  says = ap (λ r. r >> good (ready-sizes E)) (sym (transitions-many E h));
-  lists = λ e. good-not-refused (check-transitions E) tt too-many-transitions 0 e (transitions-many E h);
-}
+not-ready : {A : Type 0} {n c nodes many : ℕ} → judgement.Refused n c ≡ judgement.Ready nodes many → A
+not-ready e = absurd (let z : _≡_ {A = ℕ} 0 1 = cc in omega arith)
+
+many-few : (E : Expr) (long : ℕ) (list′ : List ℕ) → transition-limit < length (transitions 0 E) → Few E (judgement.Refused too-many-transitions 0) long list′
+many-few E long list′ h = record { says = ap (λ r. r >> good (ready-sizes E)) (sym (transitions-many E h)); lists = λ nodes many e. not-ready e }
 
 -- What the list's answer says of its length.
-module _ (E : Expr) (list list′ : List ℕ) where
-  pub too-many-few : (r : Listed) → ListIs r (transitions 0 E) list list′ → r ≡ TooMany → Few E (refused too-many-transitions 0) list list′
-  too-many-few (Many n) w e = absurd (let z : _≡_ {A = ℕ} 0 1 = cc in omega arith)
-  too-many-few TooMany w e = many-few E list list′ (w .0)
+module _ (E : Expr) (long : ℕ) (list′ : List ℕ) where
+  pub no-room-few : long < 3 * most → Few E judgement.NoRoom long list′
+  no-room-few h = record { says = h; lists = λ nodes many e. absurd (let z : _≡_ {A = ℕ} 0 1 = cc in omega arith) }
 
-  many-listed : (n : ℕ) (r : Listed) → ListIs r (transitions 0 E) list list′ → r ≡ Many n → (n ≡ length (transitions 0 E)) × ListIsOf E list list′
-  many-listed n (Many m) w e =
-      let d : m ≡ n = cc in
-      (sym d ∙ w .0, w .1 ∙ ap (λ k. flat (transitions 0 E) ++ drop (3 * k) list) (w .0))
-  many-listed n TooMany w e = absurd (let z : _≡_ {A = ℕ} 0 1 = cc in omega arith)
+  pub too-many-few : (r : Listed) → ListIs r (transitions 0 E) list′ → r ≡ TooMany → Few E (judgement.Refused too-many-transitions 0) long list′
+  too-many-few r w e = many-few E long list′ (subst (λ q. ListIs q (transitions 0 E) list′) e w)
 
-  pub over-few : (n : ℕ) (r : Listed) → ListIs r (transitions 0 E) list list′ → r ≡ Many n → transition-limit < n → Few E (refused too-many-transitions 0) list list′
-  over-few n r w e h = many-few E list list′ (omega (arith, many-listed n r w e .0))
+  many-listed : (n : ℕ) (r : Listed) → ListIs r (transitions 0 E) list′ → r ≡ Many n → (n ≡ length (transitions 0 E)) × (take (3 * n) list′ ≡ flat (transitions 0 E))
+  many-listed n r w e = subst (λ q. ListIs q (transitions 0 E) list′) e w
 
-  pub listed-few : (n nodes : ℕ) (r : Listed) → ListIs r (transitions 0 E) list list′ → r ≡ Many n → n ≤ transition-limit → nodes ≡ node-count E
-      → Few E (good (record { nodes = nodes; transitions = n })) list list′
+  pub over-few : (n : ℕ) (r : Listed) → ListIs r (transitions 0 E) list′ → r ≡ Many n → transition-limit < n → Few E (judgement.Refused too-many-transitions 0) long list′
+  over-few n r w e h = many-few E long list′ (omega (arith, many-listed n r w e .0))
+
+  pub listed-few : (n nodes : ℕ) (r : Listed) → ListIs r (transitions 0 E) list′ → r ≡ Many n → n ≤ transition-limit → nodes ≡ node-count E → Few E (judgement.Ready nodes n) long list′
   unfolding ready-sizes
   listed-few n nodes r w e h d =
       let m = many-listed n r w e in
       let c : check-transitions E ≡ good tt = transitions-few E (omega (arith, m .0)) in
       record {
         says = (λ i. good (record { nodes = d i; transitions = m .0 i })) ∙ ap (λ r. r >> good (ready-sizes E)) (sym c);
-        lists = λ _. m .1;
+        lists = λ _ _ _. ap (λ k. take (3 * k) list′) (sym (m .0)) ∙ m .1;
       }
 
 -- The counts of the whole plan stand first.
@@ -137,35 +137,30 @@ judge-same E F e =
     good-same E F h
 
 -- A refusal of the first or the second test.
-stops : (E : Expr) (n c : ℕ) (counts counts′ list list′ : List ℕ) → judge E ≡ refused n c → Fine E (refused n c) counts counts′ list list′
-stops E n c counts counts′ list list′ e = record {
-  says = ap (λ r. r >>= λ F. good (ready-sizes F)) (sym e);
-  written = λ g. good-not-refused (judge E) E n c g e;
-}
+stops : (E : Expr) (n c : ℕ) (counts counts′ : List ℕ) (long : ℕ) (list′ : List ℕ) → judge E ≡ refused n c → Fine E (judgement.Refused n c) counts counts′ long list′
+stops E n c counts counts′ long list′ e = record { says = ap (λ r. r >>= λ F. good (ready-sizes F)) (sym e); written = λ nodes many g. not-ready g }
 
-pub loops-stop : (E : Expr) (n c : ℕ) (counts counts′ list list′ : List ℕ) → refused n c ≡ check-loops E → Fine E (refused n c) counts counts′ list list′
-loops-stop E n c counts counts′ list list′ e = stops E n c counts counts′ list list′ (judge-by E (sym e) refl)
+pub loops-stop : (E : Expr) (n c : ℕ) (counts counts′ : List ℕ) (long : ℕ) (list′ : List ℕ) → refused n c ≡ check-loops E → Fine E (judgement.Refused n c) counts counts′ long list′
+loops-stop E n c counts counts′ long list′ e = stops E n c counts counts′ long list′ (judge-by E (sym e) refl)
 
 then-sizes : (r : Answer (Unit {0})) (E : Expr) → (r >> good (ready-sizes E)) ≡ ((r >> good E) >>= λ F. good (ready-sizes F))
 then-sizes (good u) E = refl
 then-sizes (refused n c) E = refl
 
-module _ (E : Expr) (nodes : ℕ) (counts counts′ list list′ : List ℕ) (loops : good tt ≡ check-loops E) (count : nodes ≡ node-count E)
+module _ (E : Expr) (nodes : ℕ) (counts counts′ : List ℕ) (long : ℕ) (list′ : List ℕ) (loops : good tt ≡ check-loops E) (count : nodes ≡ node-count E)
     (counted : counts′ ≡ node-counts E ++ drop (3 * nodes) counts) where
-  pub places-stop : fits counts′ ≡ false → Fine E (refused too-many-places 0) counts counts′ list list′
+  pub places-stop : fits counts′ ≡ false → Fine E (judgement.Refused too-many-places 0) counts counts′ long list′
   places-stop f =
-      stops E too-many-places 0 counts counts′ list list′
+      stops E too-many-places 0 counts counts′ long list′
       (judge-by E (sym loops) (places-by E (drop (3 * nodes) counts) counted ∙ ap (λ b. check b too-many-places 0) f))
 
-  pub all-fine : fits counts′ ≡ true → (answer : Answer Sizes) → Few E answer list list′ → Fine E answer counts counts′ list list′
-  all-fine f answer w =
+  pub all-fine : fits counts′ ≡ true → (r : Judgement) → Few E r long list′ → Fine E r counts counts′ long list′
+  all-fine f r w =
       let e : judge E ≡ (check-transitions E >> good E) =
       judge-by E (sym loops) (places-by E (drop (3 * nodes) counts) counted ∙ ap (λ b. check b too-many-places 0) f) in
       record {
-        says = w .says ∙ then-sizes (check-transitions E) E ∙ ap (λ r. r >>= λ F. good (ready-sizes F)) (sym e);
-        written = λ g.
-            let (u, h, _) = bind-good (check-transitions E) (λ _. good E) E (sym e ∙ g) in
-            (counted ∙ ap (λ n. node-counts E ++ drop (3 * n) counts) count, w .lists h);
+        says = subst (λ a. FrontSays r a long) (then-sizes (check-transitions E) E ∙ ap (λ a. a >>= λ F. good (ready-sizes F)) (sym e)) (w .says);
+        written = λ n m g. (counted ∙ ap (λ n. node-counts E ++ drop (3 * n) counts) count, w .lists n m g);
       }
 
 -- A field takes 3 bytes at least.
@@ -186,6 +181,8 @@ pub record IsRead (plan : List ℕ) (nodes : ℕ) (table table′ : List ℕ) : 
   pub few : actions expr ≤ 256
   pub labelled : T (named expr)
   pub room : nodes ≤ 1366
+  pub short : length plan ≤ plan-limit
+  pub three-bytes : 3 * nodes ≤ length plan
   pub rows : TableIsOf expr table table′
 
 pub is-read : (plan : List ℕ) (nodes acts : ℕ) (table table′ : List ℕ) (r : PlanRead) → says r ≡ read-sizes plan → RowsAre (read-plan plan) table table′ → r ≡ Read nodes acts
@@ -205,35 +202,39 @@ is-read plan nodes acts table table′ r s w e = go (read-plan plan) refl (sym (
           few = b .few;
           labelled = b .labelled;
           room = omega (arith, bytes-of-nodes E, encode-length E, b .short);
+          short = omega (arith, read-length plan E p, encode-length E, b .short);
+          three-bytes = omega (arith, bytes-of-nodes E, read-length plan E p);
           rows = w;
         }
 
 -- The judgement of a plan that is refused as it is read, and of one that is read.
-pub unread : (plan : List ℕ) (n c : ℕ) (table table′ counts counts′ list list′ : List ℕ) (r : PlanRead) → says r ≡ read-sizes plan → r ≡ Refused n c
-    → (refused n c ≡ ready plan) × TablesAre (judged plan) table table′ counts counts′ list list′
+pub unread : (plan : List ℕ) (n c : ℕ) (r : PlanRead) → says r ≡ read-sizes plan → r ≡ Refused n c → refused n c ≡ ready plan
 unfolding judged
-unread plan n c table table′ counts counts′ list list′ r s e = go (read-plan plan) (sym (ap says e) ∙ s)
+unread plan n c r s e = go (read-plan plan) (sym (ap says e) ∙ s)
   where
-    go : (a : Answer Expr) → refused n c ≡ (a >>= λ E. good (sizes-of E)) → (refused n c ≡ ((a >>= judge) >>= λ E. good (ready-sizes E))) × TablesAre (a >>= judge) table table′ counts counts′ list list′
+    go : (a : Answer Expr) → refused n c ≡ (a >>= λ E. good (sizes-of E)) → refused n c ≡ ((a >>= judge) >>= λ E. good (ready-sizes E))
     go (good E) f = good-not-refused _ _ n c refl (sym f)
-    go (refused m d) f = let p : n ≡ m = cc in let q : c ≡ d = cc in ((λ i. refused (p i) (q i)), tt)
+    go (refused m d) f = let p : n ≡ m = cc in let q : c ≡ d = cc in λ i. refused (p i) (q i)
 
-module _ (plan : List ℕ) (nodes : ℕ) (table table′ counts counts′ list list′ : List ℕ) (w : IsRead plan nodes table table′) (answer : Answer Sizes)
-    (fine : Fine (w .expr) answer counts counts′ list list′) where
-  pub front-answer : answer ≡ ready plan
+module _ (plan : List ℕ) (nodes : ℕ) (table table′ counts counts′ : List ℕ) (long : ℕ) (list′ : List ℕ) (w : IsRead plan nodes table table′) where
+  pub front-answer : (r : Judgement) → Fine (w .expr) r counts counts′ long list′ → FrontSays r (ready plan) long
   unfolding judged
-  front-answer = fine .says ∙ ap (λ a. (a >>= judge) >>= λ E. good (ready-sizes E)) (sym (w .read))
+  front-answer r fine = subst (λ a. FrontSays r a long) (ap (λ a. (a >>= judge) >>= λ E. good (ready-sizes E)) (sym (w .read))) (fine .says)
 
-  tables-of : (a : Answer Expr) → judge (w .expr) ≡ a → TablesAre a table table′ counts counts′ list list′
-  tables-of (refused n c) e = tt
-  tables-of (good F) e =
+  ready-tables : (n m : ℕ) → Fine (w .expr) (judgement.Ready n m) counts counts′ long list′ → (a : Answer Expr) → judge (w .expr) ≡ a
+      → TablesAre (judgement.Ready n m) a table table′ counts counts′ list′
+  ready-tables n m fine (refused k c) e = tt
+  ready-tables n m fine (good F) e =
       let d : w .expr ≡ F = judge-same (w .expr) F e in
-      let (x, y) = fine .written (e ∙ ap good (sym d)) in
-      subst (λ E. TableIsOf E table table′ × CountsAreOf E counts counts′ × ListIsOf E list list′) d (w .rows, x, y)
+      let (x, y) = fine .written n m refl in
+      subst (λ E. TableIsOf E table table′ × CountsAreOf E counts counts′ × ListIsOf E list′) d (w .rows, x, y)
 
-  pub front-tables : TablesAre (judged plan) table table′ counts counts′ list list′
+  pub front-tables : (r : Judgement) → Fine (w .expr) r counts counts′ long list′ → TablesAre r (judged plan) table table′ counts counts′ list′
   unfolding judged
-  front-tables = subst (λ a. TablesAre (a >>= judge) table table′ counts counts′ list list′) (sym (w .read)) (tables-of (judge (w .expr)) refl)
+  front-tables (judgement.Refused n c) fine = tt
+  front-tables (judgement.Ready n m) fine =
+      subst (λ a. TablesAre (judgement.Ready n m) (a >>= judge) table table′ counts counts′ list′) (sym (w .read)) (ready-tables n m fine (judge (w .expr)) refl)
+  front-tables judgement.NoRoom fine = tt
 
 -- What is left of the compile call's judgement: the test of the arcs.
 in-turn : (l p t : Answer (Unit {0})) (arcs : Expr → Answer (Unit {0})) (E : Expr)

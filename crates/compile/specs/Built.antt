@@ -13,6 +13,7 @@ use Rattle.algebra.specs.Expr.{Expr}
 use Rattle.algebra.specs.Arcs.{net-of}
 use Rattle.net.specs.Tables.{rows-of, arcs-of}
 use Rattle.boxes.specs.Compile.{Counts, counts-of, accept, Lent, compile}
+use Rattle.transitions.specs.Numbers.{most}
 use Rattle.compile.specs.Judged.{check-arcs}
 use Rattle.compile.specs.declared.Compiling.{Compiling}
 use Rattle.compile.specs.declared.Compiling.the-variants as compiling
@@ -48,20 +49,22 @@ pub record NetIs (plan : List ℕ) (c : Counts) (rows arcs : List ℕ) : Type 0 
   pub told : c ≡ counts-of (net-of expr)
   pub begin : Begin rows arcs expr
 
--- So many rows and so many arcs are not what every net finds room in.
-abbrev pub Short : ℕ → ℕ → Type 0
-Short rows arcs = (rows < 6 * transition-limit) ⊎ (arcs < arc-limit)
+-- No room is told only where a list, rows or arcs of this length are not what every net finds room in.
+abbrev pub ShortIs : Built → ℕ → ℕ → ℕ → Type 0
+ShortIs (built.Refused number carried) list rows arcs = Unit {0}
+ShortIs built.NoRoom list rows arcs = (list < 3 * most) ⊎ ((rows < 6 * transition-limit) ⊎ (arcs < arc-limit))
+ShortIs (built.Made places transitions count entries internals) list rows arcs = Unit {0}
 
--- What becomes of a plan in the work room: it is refused; the room is short; or its net is there.
+-- What becomes of a plan in the work room: it is refused; there is no room; or its net is there.
 abbrev pub BuiltIs : List ℕ → Built → List ℕ → List ℕ → Type 0
 BuiltIs plan (built.Refused number carried) rows arcs = accept plan ≡ refused number carried
-BuiltIs plan built.NoRoom rows arcs = Short (length rows) (length arcs)
+BuiltIs plan built.NoRoom rows arcs = Unit {0}
 BuiltIs plan (built.Made places transitions count entries internals) rows arcs = NetIs plan (counts places transitions count entries internals) rows arcs
 
 -- The same of an expression that has passed as far as 12.
 abbrev pub MadeOf : Expr → Built → List ℕ → List ℕ → Type 0
 MadeOf E (built.Refused number carried) rows arcs = check-arcs E ≡ refused number carried
-MadeOf E built.NoRoom rows arcs = Short (length rows) (length arcs)
+MadeOf E built.NoRoom rows arcs = Unit {0}
 MadeOf E (built.Made places transitions count entries internals) rows arcs =
     (check-arcs E ≡ good tt) × (counts places transitions count entries internals ≡ counts-of (net-of E)) × Begin rows arcs E
 

@@ -8,8 +8,9 @@ use plan::exclusive::wide;
 ghost use mathlib.Core.Path.{_≡_};
 ghost use Prim.Native.Nat.{_*_, _≤_};
 ghost use lib.ListN.{length};
+ghost use Rattle.field.specs.Limits.{plan-limit};
 ghost use Rattle.algebra.specs.Expr.{Expr};
-ghost use Rattle.compile.specs.Built.{BuiltIs, MadeOf, Told, found-room};
+ghost use Rattle.compile.specs.Built.{BuiltIs, MadeOf, Told, ShortIs, found-room};
 ghost use Rattle.compile.specs.Rows.{AskedAll, Whole};
 
 // The first refusal with what it carries; that the room is too short; or the counts of the net that stands in it.
@@ -26,7 +27,7 @@ pub enum Built {
 }
 
 // The answer, with the counts of node 0, which is the whole plan.
-fn told(counts: &[u16; 4098], transitions: usize, arcs: usize) -> Built
+fn told(counts: &[u16], transitions: usize, arcs: usize) -> Built
     ensures { λ r. ⌜ Told (now (counts .entry)) transitions arcs r ⌝ }
 {
     let entries = wide(number_at(counts, 0));
@@ -43,16 +44,17 @@ fn told(counts: &[u16; 4098], transitions: usize, arcs: usize) -> Built
 
 // 13, or the net's rows and arcs and its counts. Only where there is room for as many arcs as there may be are they too many.
 fn make_net(
-    table: &[u16; 8196],
+    table: &[u16],
     nodes: usize,
-    counts: &[u16; 4098],
-    list: &[u16; 3840],
+    counts: &[u16],
+    list: &[u16],
     many: usize,
     rows: &mut [u16],
     arcs: &mut [u16],
 ) -> Built
-    requires { ⌜ AskedAll (now table) nodes (now counts) (now list) many × (many ≤ 1024) × (6 * many ≤ length (now rows)) × (length (now arcs) ≤ 16384) ⌝ }
-    ensures { λ r. ⌜ ((E : Expr) → Whole (now (table .entry)) nodes (now (counts .entry)) (now (list .entry)) many E → MadeOf E r (now (rows .exit)) (now (arcs .exit))) ⌝ }
+    requires { ⌜ AskedAll (now table) nodes (now counts) (now list) many × (many ≤ 1024) × (6 * many ≤ length (now rows)) × (length (now arcs) ≤ 16384) × (length (now table) ≤ 8196) × (3 * many ≤ length (now list)) ⌝ }
+    ensures made { λ r. ⌜ ((E : Expr) → Whole (now (table .entry)) nodes (now (counts .entry)) (now (list .entry)) many E → MadeOf E r (now (rows .exit)) (now (arcs .exit))) ⌝ }
+    ensures room { λ r. ⌜ ShortIs r (length (now (list .entry))) (length (now (rows .entry))) (length (now (arcs .entry))) ⌝ }
 {
     let mut left = [0u16; 2048];
     let mut right = [0u16; 2048];
@@ -78,21 +80,29 @@ fn make_net(
     Built::Refused(field::TOO_MANY_ARCS, 0)
 }
 
-// The judgement of a plan as far as 13, and where there is no refusal its net.
-pub fn build(plan: &[u8], rows: &mut [u16], arcs: &mut [u16]) -> Built
-    requires { ⌜ length (now arcs) ≤ 16384 ⌝ }
-    ensures { λ r. ⌜ BuiltIs (now (plan .entry)) r (now (rows .exit)) (now (arcs .exit)) ⌝ }
+// The judgement of a plan as far as 13, and where there is no refusal its net. The table of nodes, their counts and the list of transitions
+// are work room too.
+pub fn build(
+    plan: &[u8],
+    table: &mut [u16],
+    counts: &mut [u16],
+    list: &mut [u16],
+    rows: &mut [u16],
+    arcs: &mut [u16],
+) -> Built
+    requires { ⌜ (length (now plan) ≤ plan-limit → (2 * length (now plan) ≤ length (now table)) × (length (now plan) ≤ length (now counts))) ⌝ }
+    requires { ⌜ (length (now arcs) ≤ 16384) × (length (now table) ≤ 8196) ⌝ }
+    ensures built { λ r. ⌜ BuiltIs (now (plan .entry)) r (now (rows .exit)) (now (arcs .exit)) ⌝ }
+    ensures room { λ r. ⌜ ShortIs r (length (now (list .entry))) (length (now (rows .entry))) (length (now (arcs .entry))) ⌝ }
 {
-    let mut table = [0u16; 8196];
-    let mut counts = [0u16; 4098];
-    let mut list = [0u16; 3840];
-    match front(plan, &mut table, &mut counts, &mut list) {
+    match front(plan, table, counts, list) {
         Judgement::Refused(number, carried) => Built::Refused(number, carried),
+        Judgement::NoRoom => Built::NoRoom,
         Judgement::Ready { nodes, transitions } => {
             if rows.len() < 6 * transitions {
                 return Built::NoRoom;
             }
-            make_net(&table, nodes, &counts, &list, transitions, rows, arcs)
+            make_net(table, nodes, counts, list, transitions, rows, arcs)
         }
     }
 }

@@ -6,24 +6,25 @@ use plan::exclusive::Loops;
 use plan::exclusive::check_loops;
 use plan::exclusive::number_at;
 use plan::exclusive::wide;
-use plan::read_plan;
+use plan::read_plan_in;
 use transitions::Listed;
 use transitions::list_transitions;
 ghost use mathlib.Core.Path.{_≡_};
-ghost use Prim.Native.Nat.{_+_, _≤_};
+ghost use Prim.Native.Nat.{_+_, _*_, _≤_};
 ghost use lib.Dec.{T, leb};
-ghost use lib.ListN.{getD};
-ghost use Rattle.field.specs.Limits.{place-limit};
+ghost use lib.ListN.{length, getD};
+ghost use Rattle.field.specs.Limits.{plan-limit, place-limit};
 ghost use Rattle.algebra.specs.Expr.{Expr, actions};
 ghost use Rattle.plan.specs.Bytes.{named};
 ghost use Rattle.plan.specs.Table.{Table};
 ghost use Rattle.compile.specs.Judged.{judged};
-ghost use Rattle.compile.specs.Ready.{front-says, ready, TablesAre, Few, Fine};
+ghost use Rattle.compile.specs.Ready.{FrontSays, ready, TablesAre, Few, Fine};
 
-// The first refusal with what it carries; or how many nodes and transitions the plan has.
+// The first refusal with what it carries; or how many nodes and transitions the plan has; or the list has too little room to tell.
 pub enum Judgement {
     Refused(usize, usize),
     Ready { nodes: usize, transitions: usize },
+    NoRoom,
 }
 
 // 11: the counts of node 0, which is the whole plan. Each is at most one above the limit, and so is too large by itself where it is cut off.
@@ -37,11 +38,12 @@ fn places_fit(counts: &[u16]) -> bool
 }
 
 // 12: the list has room for more than the limit, since what a scope takes away is listed for a while.
-fn list_few(table: &[u16; 8196], nodes: usize, list: &mut [u16; 3840]) -> Judgement
-    requires { ⌜ nodes ≤ 1366 ⌝ }
-    ensures { λ r. ⌜ ((E : Expr) → Table (now (table .entry)) nodes E → actions E ≤ 256 → T (named E) → Few E (front-says r) (now (list .entry)) (now (list .exit))) ⌝ }
+fn list_few(table: &[u16], nodes: usize, list: &mut [u16]) -> Judgement
+    requires { ⌜ (nodes ≤ 1366) × (6 * nodes ≤ length (now table)) ⌝ }
+    ensures { λ r. ⌜ ((E : Expr) → Table (now (table .entry)) nodes E → actions E ≤ 256 → T (named E) → Few E r (length (now (list .entry))) (now (list .exit))) ⌝ }
 {
     match list_transitions(table, nodes, list) {
+        Listed::NoRoom => Judgement::NoRoom,
         Listed::TooMany => Judgement::Refused(field::TOO_MANY_TRANSITIONS, 0),
         Listed::Many(n) => {
             if n <= field::TRANSITION_LIMIT {
@@ -57,14 +59,9 @@ fn list_few(table: &[u16; 8196], nodes: usize, list: &mut [u16; 3840]) -> Judgem
 }
 
 // What is asked of a plan that was read: 10, 11, 12.
-fn judge(
-    table: &[u16; 8196],
-    nodes: usize,
-    counts: &mut [u16; 4098],
-    list: &mut [u16; 3840],
-) -> Judgement
-    requires { ⌜ nodes ≤ 1366 ⌝ }
-    ensures { λ r. ⌜ ((E : Expr) → Table (now (table .entry)) nodes E → actions E ≤ 256 → T (named E) → Fine E (front-says r) (now (counts .entry)) (now (counts .exit)) (now (list .entry)) (now (list .exit))) ⌝ }
+fn judge(table: &[u16], nodes: usize, counts: &mut [u16], list: &mut [u16]) -> Judgement
+    requires { ⌜ (nodes ≤ 1366) × (6 * nodes ≤ length (now table)) × (3 * nodes ≤ length (now counts)) ⌝ }
+    ensures { λ r. ⌜ ((E : Expr) → Table (now (table .entry)) nodes E → actions E ≤ 256 → T (named E) → Fine E r (now (counts .entry)) (now (counts .exit)) (length (now (list .entry))) (now (list .exit))) ⌝ }
 {
     match check_loops(table, nodes) {
         Loops::Faulty(at) => Judgement::Refused(field::BODY_NOT_EXCLUSIVE, at),
@@ -80,17 +77,14 @@ fn judge(
 }
 
 // The judgement as far as 12. Where there is no refusal the three work tables begin with the plan's nodes, their counts of places, and
-// its transitions.
-pub fn front(
-    plan: &[u8],
-    table: &mut [u16; 8196],
-    counts: &mut [u16; 4098],
-    list: &mut [u16; 3840],
-) -> Judgement
-    ensures answer { λ r. ⌜ front-says r ≡ ready (now (plan .entry)) ⌝ }
-    ensures tables { λ r. ⌜ TablesAre (judged (now (plan .entry))) (now (table .entry)) (now (table .exit)) (now (counts .entry)) (now (counts .exit)) (now (list .entry)) (now (list .exit)) ⌝ }
+// its transitions. A field takes 3 bytes at least, so two numbers of the table and one of the counts for each byte are room enough; how
+// many transitions there are is not known before they are listed.
+pub fn front(plan: &[u8], table: &mut [u16], counts: &mut [u16], list: &mut [u16]) -> Judgement
+    requires { ⌜ (length (now plan) ≤ plan-limit → (2 * length (now plan) ≤ length (now table)) × (length (now plan) ≤ length (now counts))) ⌝ }
+    ensures answer { λ r. ⌜ FrontSays r (ready (now (plan .entry))) (length (now (list .entry))) ⌝ }
+    ensures tables { λ r. ⌜ TablesAre r (judged (now (plan .entry))) (now (table .entry)) (now (table .exit)) (now (counts .entry)) (now (counts .exit)) (now (list .exit)) ⌝ }
 {
-    match read_plan(plan, table) {
+    match read_plan_in(plan, table) {
         PlanRead::Refused(number, carried) => Judgement::Refused(number, carried),
         PlanRead::Read { nodes, actions: _ } => judge(table, nodes, counts, list),
     }

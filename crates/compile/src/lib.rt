@@ -124,11 +124,22 @@ fn lend(
 
 // In a small room, which may be too short for the net.
 fn compile_small(plan: &[u8], kinds: &mut [u8], rows: &mut [u16], arcs: &mut [u16]) -> Built
+    requires { ⌜ length (now plan) ≤ 128 ⌝ }
     ensures { λ r. ⌜ Tries (now (plan .entry)) (lent (now (kinds .entry)) (now (rows .entry)) (now (arcs .entry))) r (now (kinds .exit)) (now (rows .exit)) (now (arcs .exit)) ⌝ }
 {
+    let mut table = [0u16; 2 * SMALL_PLAN];
+    let mut counts = [0u16; SMALL_PLAN];
+    let mut list = [0u16; 384];
     let mut made_rows = [0u16; 384];
     let mut made_arcs = [0u16; 1024];
-    let built = build(plan, &mut made_rows, &mut made_arcs);
+    let built = build(
+        plan,
+        &mut table,
+        &mut counts,
+        &mut list,
+        &mut made_rows,
+        &mut made_arcs,
+    );
     lend(built, &made_rows, &made_arcs, kinds, rows, arcs)
 }
 
@@ -137,9 +148,19 @@ fn compile_large(plan: &[u8], kinds: &mut [u8], rows: &mut [u16], arcs: &mut [u1
     ensures tries { λ r. ⌜ Tries (now (plan .entry)) (lent (now (kinds .entry)) (now (rows .entry)) (now (arcs .entry))) r (now (kinds .exit)) (now (rows .exit)) (now (arcs .exit)) ⌝ }
     ensures room { λ r. ⌜ found-room r ≡ true ⌝ }
 {
+    let mut table = [0u16; 8196];
+    let mut counts = [0u16; 4098];
+    let mut list = [0u16; 3840];
     let mut made_rows = [0u16; 6144];
     let mut made_arcs = [0u16; 16384];
-    let built = build(plan, &mut made_rows, &mut made_arcs);
+    let built = build(
+        plan,
+        &mut table,
+        &mut counts,
+        &mut list,
+        &mut made_rows,
+        &mut made_arcs,
+    );
     lend(built, &made_rows, &made_arcs, kinds, rows, arcs)
 }
 

@@ -25,9 +25,9 @@ pub struct Ends {
 
 // The places on one side of a transition go behind the arcs that are there, where there is room. Where they end is told either way.
 fn put_side(
-    table: &[u16; 8196],
+    table: &[u16],
     nodes: usize,
-    counts: &[u16; 4098],
+    counts: &[u16],
     first: usize,
     second: usize,
     side: Side,
@@ -37,7 +37,7 @@ fn put_side(
     arcs: &mut [u16],
     at: usize,
 ) -> usize
-    requires { ⌜ Asked (now table) nodes (now counts) (item-of first second) × (at ≤ length (now arcs)) × (length (now arcs) ≤ 16384) ⌝ }
+    requires { ⌜ Asked (now table) nodes (now counts) (item-of first second) × (at ≤ length (now arcs)) × (length (now arcs) ≤ 16384) × (length (now table) ≤ 8196) ⌝ }
     ensures { λ r. ⌜ ((E : Expr) → Of (now (table .entry)) nodes (now (counts .entry)) (item-of first second) E → PutSide (length (now (arcs .entry))) r at (numbers (by-item (passes side) (item-of first second)) 0 (places 0 E)) (now (arcs .entry)) (now (arcs .exit))) ⌝ }
 {
     let count = arcs_of_item(table, nodes, counts, first, second, side, left, right, both);
@@ -50,9 +50,9 @@ fn put_side(
 
 // The inputs and then the outputs of a transition.
 fn put_arcs(
-    table: &[u16; 8196],
+    table: &[u16],
     nodes: usize,
-    counts: &[u16; 4098],
+    counts: &[u16],
     first: usize,
     second: usize,
     left: &mut [u16; 2048],
@@ -61,7 +61,7 @@ fn put_arcs(
     arcs: &mut [u16],
     at: usize,
 ) -> Ends
-    requires { ⌜ Asked (now table) nodes (now counts) (item-of first second) × (at ≤ length (now arcs)) × (length (now arcs) ≤ 16384) ⌝ }
+    requires { ⌜ Asked (now table) nodes (now counts) (item-of first second) × (at ≤ length (now arcs)) × (length (now arcs) ≤ 16384) × (length (now table) ≤ 8196) ⌝ }
     ensures { λ r. ⌜ ((E : Expr) → Of (now (table .entry)) nodes (now (counts .entry)) (item-of first second) E → PutArcs (length (now (arcs .entry))) (r .middle) (r .end) at (numbers (by-item consumes (item-of first second)) 0 (places 0 E)) (numbers (by-item produces (item-of first second)) 0 (places 0 E)) (now (arcs .entry)) (now (arcs .exit))) ⌝ }
 {
     let middle = put_side(
@@ -122,10 +122,10 @@ fn put_row(
 
 // Transition t of the list: its arcs behind those that are there, and its row. Answers where its arcs end.
 fn put_transition(
-    table: &[u16; 8196],
+    table: &[u16],
     nodes: usize,
-    counts: &[u16; 4098],
-    list: &[u16; 3840],
+    counts: &[u16],
+    list: &[u16],
     t: usize,
     left: &mut [u16; 2048],
     right: &mut [u16; 2048],
@@ -134,7 +134,7 @@ fn put_transition(
     arcs: &mut [u16],
     at: usize,
 ) -> usize
-    requires { ⌜ Asked (now table) nodes (now counts) (item-at (now list) t) × (t < 1024) × (6 * (t + 1) ≤ length (now rows)) × (at ≤ length (now arcs)) × (length (now arcs) ≤ 16384) ⌝ }
+    requires { ⌜ Asked (now table) nodes (now counts) (item-at (now list) t) × (t < 1024) × (6 * (t + 1) ≤ length (now rows)) × (3 * (t + 1) ≤ length (now list)) × (at ≤ length (now arcs)) × (length (now arcs) ≤ 16384) × (length (now table) ≤ 8196) ⌝ }
     ensures { λ r. ⌜ ((E : Expr) → Of (now (table .entry)) nodes (now (counts .entry)) (item-at (now (list .entry)) t) E → Put (length (now (arcs .entry))) r t at (transition-of (places 0 E) (listed-at (now (list .entry)) t) ∷ []) (now (rows .entry)) (now (rows .exit)) (now (arcs .entry)) (now (arcs .exit))) ⌝ }
 {
     let label = list[3 * t];
@@ -171,10 +171,10 @@ fn put_transition(
 
 // All transitions of the list. Answers where the arcs end, or a number above the room for arcs as soon as they pass it.
 pub fn put_transitions(
-    table: &[u16; 8196],
+    table: &[u16],
     nodes: usize,
-    counts: &[u16; 4098],
-    list: &[u16; 3840],
+    counts: &[u16],
+    list: &[u16],
     many: usize,
     left: &mut [u16; 2048],
     right: &mut [u16; 2048],
@@ -182,7 +182,7 @@ pub fn put_transitions(
     rows: &mut [u16],
     arcs: &mut [u16],
 ) -> usize
-    requires { ⌜ AskedAll (now table) nodes (now counts) (now list) many × (many ≤ 1024) × (6 * many ≤ length (now rows)) × (length (now arcs) ≤ 16384) ⌝ }
+    requires { ⌜ AskedAll (now table) nodes (now counts) (now list) many × (many ≤ 1024) × (6 * many ≤ length (now rows)) × (length (now arcs) ≤ 16384) × (length (now table) ≤ 8196) × (3 * many ≤ length (now list)) ⌝ }
     ensures { λ r. ⌜ ((E : Expr) → OfAll (now (table .entry)) nodes (now (counts .entry)) (now (list .entry)) many E → Put (length (now (arcs .entry))) r 0 0 (made E (listed-from (now (list .entry)) 0 many)) (now (rows .entry)) (now (rows .exit)) (now (arcs .entry)) (now (arcs .exit))) ⌝ }
 {
     let mut t = 0;

@@ -13,7 +13,7 @@ use Rattle.field.specs.Answer.{Answer, good, refused, _>>=_}
 use Rattle.algebra.specs.Expr.{Expr, actions}
 use Rattle.plan.specs.Reading.{Parts, read-operands, read-field, read-plan}
 use Rattle.plan.specs.Nodes.{Row, sizes-of, numbers, nodes, node-count, node-table}
-use Rattle.plan.specs.Inner.{row-limit, OperandsAre, OperandsFit}
+use Rattle.plan.specs.Inner.{OperandsAre, OperandsFit}
 use Rattle.plan.specs.Says.{says, read-sizes, RowsAre}
 use Rattle.plan.specs.declared.OperandsRead.{OperandsRead}
 use Rattle.plan.specs.declared.OperandsRead.the-variants as operands-read
@@ -70,7 +70,7 @@ module _ (s t t′ : List ℕ) (h : length s ≤ plan-limit) (r : OperandsRead) 
   pub plan-refused : (k c : ℕ) → r ≡ operands-read.Refused k c → (says (plan-read.Refused k c) ≡ read-sizes s) × RowsAre (read-plan s) t t′
   plan-refused k c e = rw (plan-operands s h) (one-refused (read-operands (read-field depth-limit) 1 s 0 0) k c t t′ (rw e at i))
 
-  pub plan-accepted : (next b : ℕ) → r ≡ operands-read.Read next b → OperandsFit r (length s) 0 → length t ≡ 6 * row-limit
+  pub plan-accepted : (next b : ℕ) → r ≡ operands-read.Read next b → OperandsFit r (length s) 0 → 2 * length s ≤ length t
       → (says (plan-read.Read next b) ≡ read-sizes s) × RowsAre (read-plan s) t t′
   plan-accepted next b e f l =
       let fits : OperandsFit (operands-read.Read next b) (length s) 0 = rw e at f in

@@ -67,22 +67,20 @@ abbrev pub with-row : List ℕ → ℕ → ℕ → ℕ → ℕ → ℕ → ℕ �
 with-row rows i tag byte members after first at =
     set (set (set (set (set (set rows i tag) (i + 1) byte) (i + 2) members) (i + 3) after) (i + 4) first) (i + 5) at
 
--- A node takes three bytes at least, so a plan has fewer nodes than the table has rows.
-abbrev pub row-limit : ℕ
-row-limit = 1366
-
--- The numbers of a row go into the table, and into 16 bits.
-pub record RowFits (node members after first at : ℕ) : Type 0 where
-  pub inside : node < row-limit
+-- The numbers of a row go into a table of so many, and into 16 bits.
+pub record RowFits (room node members after first at : ℕ) : Type 0 where
+  pub inside : 6 * node + 6 ≤ room
   pub few : members < 65536
   pub next : after < 65536
   pub counted : first < 65536
   pub placed : at < 65536
 
--- What the readers of a field and of operands ask: the bytes left lie in the plan, there are rows for the nodes in them, and the actions are counted.
-pub record Room (l at node n : ℕ) : Type 0 where
+-- What the readers of a field and of operands ask: the bytes left lie in the plan, there are rows for the nodes in them, as a node takes three
+-- bytes at least and six numbers, and the actions are counted.
+pub record Room (l room at node n : ℕ) : Type 0 where
   pub in-plan : at + l ≤ plan-limit
-  pub in-rows : 3 * node + l ≤ plan-limit
+  pub few-nodes : 3 * node + l ≤ plan-limit
+  pub in-rows : 6 * node + 2 * l ≤ room
   pub counted : n ≤ action-limit
 
 -- A field takes three bytes at least, and three for each of its nodes.

@@ -110,7 +110,7 @@ fn none_judged() -> [u16; 1366]
 }
 
 // The check for loops of the plan whose node table the rows begin with.
-pub fn check_loops(rows: &[u16; 8196], nodes: usize) -> Loops
+pub fn check_loops(rows: &[u16], nodes: usize) -> Loops
     requires { ⌜ nodes ≤ 1366 ⌝ }
     ensures { λ r. ⌜ ((E : Expr) → Table (now (rows .entry)) nodes E → loops-say r ≡ check-loops E) ⌝ }
 {

@@ -3,8 +3,9 @@ pub mod exclusive;
 pub mod tags;
 
 ghost use mathlib.Core.Path.{_≡_};
-ghost use Prim.Native.Nat.{_+_, _*_};
+ghost use Prim.Native.Nat.{_+_, _*_, _≤_};
 ghost use lib.ListN.{length};
+ghost use Rattle.field.specs.Limits.{plan-limit};
 ghost use Rattle.field.specs.Field.{length-of, body-of};
 ghost use Rattle.plan.specs.Reading.{action-tag, scope-tag, read-body, read-operands, read-field, read-plan};
 ghost use Rattle.plan.specs.Says.{says, read-sizes, RowsAre};
@@ -139,7 +140,7 @@ fn look(s: &[u8], at: usize, actions: usize) -> Head
 
 // One row of the table.
 fn put_row(
-    rows: &mut [u16; ROWS],
+    rows: &mut [u16],
     node: usize,
     tag: u8,
     byte: u8,
@@ -148,7 +149,7 @@ fn put_row(
     first: usize,
     at: usize,
 )
-    requires { ⌜ RowFits node members after first at ⌝ }
+    requires { ⌜ RowFits (length (now rows)) node members after first at ⌝ }
     ensures { λ r. ⌜ now (rows .exit) ≡ with-row (now (rows .entry)) (6 * node) tag byte members after first at ⌝ }
 {
     let start = 6 * node;
@@ -168,9 +169,9 @@ fn read_field(
     levels: usize,
     node: usize,
     actions: usize,
-    rows: &mut [u16; ROWS],
+    rows: &mut [u16],
 ) -> FieldRead
-    requires { ⌜ Room (length (now s)) at node actions ⌝ }
+    requires { ⌜ Room (length (now s)) (length (now rows)) at node actions ⌝ }
     ensures fits { λ r. ⌜ FieldFits r (length (now (s .entry))) node ⌝ }
     ensures is { λ r. ⌜ FieldIs (read-field levels (now (s .entry)) at actions) r node actions at (now (rows .entry)) (now (rows .exit)) ⌝ }
 {
@@ -230,9 +231,9 @@ fn read_operands(
     node: usize,
     actions: usize,
     members: usize,
-    rows: &mut [u16; ROWS],
+    rows: &mut [u16],
 ) -> OperandsRead
-    requires { ⌜ Room (length (now s)) at node actions ⌝ }
+    requires { ⌜ Room (length (now s)) (length (now rows)) at node actions ⌝ }
     ensures fits { λ r. ⌜ OperandsFit r (length (now (s .entry))) node ⌝ }
     ensures are { λ r. ⌜ OperandsAre members (read-operands (read-field levels) members (now (s .entry)) at actions) r node actions at (now (rows .entry)) (now (rows .exit)) ⌝ }
 {
@@ -268,22 +269,16 @@ fn read_operands(
     }
 }
 
-// An array that is lent as a slice tells its length to the proof: what `read_plan` says of the rows rests on that.
-fn numbers_in(s: &[u16]) -> usize
-    ensures { λ r. ⌜ r ≡ length (now (s .entry)) ⌝ }
-{
-    s.len()
-}
-
-// A whole plan: one field, and nothing after it. The rows of its nodes are written from the front, and no other.
-pub fn read_plan(plan: &[u8], rows: &mut [u16; ROWS]) -> PlanRead
+// A whole plan: one field, and nothing after it. The rows of its nodes are written from the front, and no other. A node takes 3 bytes at
+// least, so two numbers for each byte of a plan are room enough.
+pub fn read_plan_in(plan: &[u8], rows: &mut [u16]) -> PlanRead
+    requires { ⌜ (length (now plan) ≤ plan-limit → 2 * length (now plan) ≤ length (now rows)) ⌝ }
     ensures answer { λ r. ⌜ says r ≡ read-sizes (now (plan .entry)) ⌝ }
     ensures rows { λ r. ⌜ RowsAre (read-plan (now (plan .entry))) (now (rows .entry)) (now (rows .exit)) ⌝ }
 {
     if field::PLAN_LIMIT < plan.len() {
         return PlanRead::Refused(field::PLAN_TOO_LONG, 0);
     }
-    numbers_in(rows);
     match read_operands(plan, 0, field::DEPTH_LIMIT, 0, 0, 1, rows) {
         OperandsRead::Refused(number, carried) => PlanRead::Refused(number, carried),
         OperandsRead::Read { nodes, actions } => PlanRead::Read {
@@ -291,4 +286,12 @@ pub fn read_plan(plan: &[u8], rows: &mut [u16; ROWS]) -> PlanRead
             actions: actions,
         },
     }
+}
+
+// The same with room for any plan.
+pub fn read_plan(plan: &[u8], rows: &mut [u16; ROWS]) -> PlanRead
+    ensures answer { λ r. ⌜ says r ≡ read-sizes (now (plan .entry)) ⌝ }
+    ensures rows { λ r. ⌜ RowsAre (read-plan (now (plan .entry))) (now (rows .entry)) (now (rows .exit)) ⌝ }
+{
+    read_plan_in(plan, rows)
 }

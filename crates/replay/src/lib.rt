@@ -119,9 +119,19 @@ fn replay_built(built: Built, rows: &[u16], arcs: &[u16], record: &[u8], marking
 fn replay_large(plan: &[u8], record: &[u8], marking: &mut [u8]) -> Ran
     ensures { λ r. ⌜ Leaves (now (plan .entry)) (now («record» .entry)) (now (marking .entry)) r (now (marking .exit)) ⌝ }
 {
+    let mut table = [0u16; 8196];
+    let mut counts = [0u16; 4098];
+    let mut list = [0u16; 3840];
     let mut rows = [0u16; 6144];
     let mut arcs = [0u16; 16384];
-    let built = build(plan, &mut rows, &mut arcs);
+    let built = build(
+        plan,
+        &mut table,
+        &mut counts,
+        &mut list,
+        &mut rows,
+        &mut arcs,
+    );
     replay_built(built, &rows, &arcs, record, marking)
 }
 
@@ -133,9 +143,19 @@ pub fn replay(plan: &[u8], record: &[u8], marking: &mut [u8]) -> Ran
     if SMALL_PLAN < plan.len() {
         return replay_large(plan, record, marking);
     }
+    let mut table = [0u16; 2 * SMALL_PLAN];
+    let mut counts = [0u16; SMALL_PLAN];
+    let mut list = [0u16; 384];
     let mut rows = [0u16; 384];
     let mut arcs = [0u16; 1024];
-    let built = build(plan, &mut rows, &mut arcs);
+    let built = build(
+        plan,
+        &mut table,
+        &mut counts,
+        &mut list,
+        &mut rows,
+        &mut arcs,
+    );
     if found_room(built) {
         return replay_built(built, &rows, &arcs, record, marking);
     }

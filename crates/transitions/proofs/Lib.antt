@@ -6,7 +6,6 @@ pub mod Weights
 pub mod StillToCome
 pub mod ScopeTurns
 pub mod JoinTurns
-pub mod Copies
 pub mod ScopeCloses
 pub mod ListedOperands
 pub mod WholeLists

@@ -15,12 +15,12 @@ use Rattle.plan.proofs.NodeTable.{node-says, sequence-operands, choice-operands
 use Rattle.transitions.specs.Numbers.{flat}
 use Rattle.transitions.specs.Parting.{first-at}
 use Rattle.transitions.specs.Listing.{Part, Stored, Held, Lists, pairs, Operands, AllNamed, all-actions, all-transitions}
-use Rattle.transitions.specs.declared.Listed.{Listed}
-use Rattle.transitions.specs.declared.Listed.the-variants.{Many, TooMany}
+use Rattle.transitions.specs.declared.Filling.{Filling}
+use Rattle.transitions.specs.declared.Filling.the-variants.{Many, Full}
 use Rattle.transitions.proofs.FlatNumbers.{flat-length}
 use Rattle.transitions.proofs.WhereActionsPart.{node-first}
 use Rattle.transitions.proofs.Weights.{scope-pairs}
-use Rattle.transitions.proofs.StillToCome.{nothing-yet, one-stored, all-held, many-held, too-many}
+use Rattle.transitions.proofs.StillToCome.{nothing-yet, one-stored, all-held, many-held, is-full}
 
 -- The operands of a field.
 abbrev operands-of : Expr → List Expr
@@ -123,10 +123,10 @@ module _ {m n : ℕ} {ts : List Labelled} {entry exit : List ℕ} (h : Held m n 
       ∙ ap (take (3 * n)) (h .numbers)
       ∙ take-at (take (3 * n) entry) (flat ts) (3 * n) front
 
-  lists-from : (r : Listed) (few : ℕ) (us : List Labelled) (last : List ℕ) → Lists r n few us exit last → Lists r n few us entry last
-  lists-from (Many k) few us last l =
+  lists-from : (r : Filling) (full few : ℕ) (us : List Labelled) (last : List ℕ) → Lists r full n few us exit last → Lists r full n few us entry last
+  lists-from (Many k) full few us last l =
       record { count = l .count; numbers = l .numbers ∙ ap (λ q. q ++ flat us) held-front; long = l .long ∙ h .long }
-  lists-from TooMany few us last l = l
+  lists-from Full full few us last l = l
 
 -- ---- one field
 
@@ -136,8 +136,8 @@ unfolding transitions nodes numbers
 one-action-listed rows count k i at l w n list p f s =
     all-held (one-stored (nothing-yet list n (transitions i (action l))) s (p ∙ w .rows-of 1 (omega arith)) (f ∙ node-first rows count (action l) w) refl)
 
-module _ (rows : List ℕ) (count k i at : ℕ) (E : Expr) (node : Node rows count k i at E) (n : ℕ) (list : List ℕ) where
-  pub no-room-for-action : 1280 ≤ n → 1280 < n + (actions E + pairs (transitions i E))
+module _ (rows : List ℕ) (count k i at : ℕ) (E : Expr) (node : Node rows count k i at E) (room n : ℕ) (list : List ℕ) where
+  pub no-room-for-action : room ≤ n → room < n + (actions E + pairs (transitions i E))
   no-room-for-action h = omega (arith, some-action E)
 
   pub action-listed : {label first : ℕ} {exit : List ℕ} → tag-at rows k ≡ 1 → label ≡ getD rows (6 * k + 1) 0 → first ≡ first-at rows k → Stored n label first 65535 list exit
@@ -154,20 +154,20 @@ module _ (rows : List ℕ) (count k i at : ℕ) (E : Expr) (node : Node rows cou
       by-cases (scope a E) w t p f s = absurd (omega (arith, node-says rows count (scope a E) w .tag))
 
   -- What is listed of the operands.
-  pub operands-listed : (tag-at rows k ≡ 1 → ⊥) → {after : ℕ} → after ≡ k + node-count E → ScopesNamed E → actions E ≤ 256 → length list ≡ 3840 → (r : Listed) (exit : List ℕ)
-      → ((count i : ℕ) (Es : List Expr) → Operands rows count (k + 1) after i Es → AllNamed Es → all-actions Es ≤ 256 → length list ≡ 3840 → Lists r n (all-actions Es) (all-transitions i Es) list exit)
-      → Lists r n (all-actions (operands-of E)) (all-transitions i (operands-of E)) list exit
-  operands-listed t e named few long r exit lists =
-      lists count i (operands-of E) (operands-stand rows count E node t e) (operands-named E named) (omega (arith, operands-actions E)) long
+  pub operands-listed : (tag-at rows k ≡ 1 → ⊥) → {after : ℕ} → after ≡ k + node-count E → ScopesNamed E → actions E ≤ 256 → (r : Filling) (exit : List ℕ)
+      → ((count i : ℕ) (Es : List Expr) → Operands rows count (k + 1) after i Es → AllNamed Es → all-actions Es ≤ 256 → Lists r room n (all-actions Es) (all-transitions i Es) list exit)
+      → Lists r room n (all-actions (operands-of E)) (all-transitions i (operands-of E)) list exit
+  operands-listed t e named few r exit lists =
+      lists count i (operands-of E) (operands-stand rows count E node t e) (operands-named E named) (omega (arith, operands-actions E))
 
-  module _ (named : ScopesNamed E) {r : Listed} (result : List ℕ) where
-    pub operands-too-many : r ≡ TooMany → Lists r n (all-actions (operands-of E)) (all-transitions i (operands-of E)) list result → 1280 < n + (actions E + pairs (transitions i E))
-    operands-too-many e l =
-        omega (arith, too-many e n (all-actions (operands-of E)) (all-transitions i (operands-of E)) list result l, operands-actions E, operands-pairs i E named)
+  module _ (named : ScopesNamed E) {r : Filling} (result : List ℕ) where
+    pub operands-full : r ≡ Full → Lists r room n (all-actions (operands-of E)) (all-transitions i (operands-of E)) list result → room < n + (actions E + pairs (transitions i E))
+    operands-full e l =
+        omega (arith, is-full e room n (all-actions (operands-of E)) (all-transitions i (operands-of E)) list result l, operands-actions E, operands-pairs i E named)
 
-    module _ {m : ℕ} (many : r ≡ Many m) (l : Lists r n (all-actions (operands-of E)) (all-transitions i (operands-of E)) list result) where
+    module _ {m : ℕ} (many : r ≡ Many m) (l : Lists r room n (all-actions (operands-of E)) (all-transitions i (operands-of E)) list result) where
       held : Held m n (all-transitions i (operands-of E)) list result
-      held = many-held many n (all-actions (operands-of E)) (all-transitions i (operands-of E)) list result l
+      held = many-held many room n (all-actions (operands-of E)) (all-transitions i (operands-of E)) list result l
 
       pub operator-listed : (tag-at rows k ≡ 1 → ⊥) → (tag-at rows k ≡ 6 → ⊥) → Held m n (transitions i E) list result
       operator-listed t s = subst (λ q. Held m n q list result) (operands-transitions i E (plain E node)) held
@@ -181,16 +181,16 @@ module _ (rows : List ℕ) (count k i at : ℕ) (E : Expr) (node : Node rows cou
           plain (scope a E) w = absurd (s (node-says rows count (scope a E) w .tag))
 
 -- A scope, which is closed after its operand.
-pub scope-listed : (rows : List ℕ) (count k i at : ℕ) (E : Expr) → Node rows count k i at E → tag-at rows k ≡ 6 → ScopesNamed E → actions E ≤ 256 → (n : ℕ) (list : List ℕ) → 3 * n ≤ length list
-    → {r : Listed} (middle : List ℕ) {m : ℕ} → r ≡ Many m → Lists r n (all-actions (operands-of E)) (all-transitions i (operands-of E)) list middle → (q : Listed) (exit : List ℕ)
-    → ((count i at a : ℕ) (D : Expr) → Node rows count k i at (scope a D) → ScopesNamed (scope a D) → actions D ≤ 256 → Part middle n m (transitions i D) → Lists q n (actions D) (transitions i (scope a D)) middle exit)
-    → Lists q n (actions E) (transitions i E) list exit
+pub scope-listed : (rows : List ℕ) (count k i at : ℕ) (E : Expr) → Node rows count k i at E → tag-at rows k ≡ 6 → ScopesNamed E → actions E ≤ 256 → (full n : ℕ) (list : List ℕ) → 3 * n ≤ length list
+    → {r : Filling} (middle : List ℕ) {m : ℕ} → r ≡ Many m → Lists r full n (all-actions (operands-of E)) (all-transitions i (operands-of E)) list middle → (q : Filling) (exit : List ℕ)
+    → ((count i at a : ℕ) (D : Expr) → Node rows count k i at (scope a D) → ScopesNamed (scope a D) → actions D ≤ 256 → Part middle n m (transitions i D) → Lists q full n (actions D) (transitions i (scope a D)) middle exit)
+    → Lists q full n (actions E) (transitions i E) list exit
 unfolding all-transitions
-scope-listed rows count k i at (action b) w t named few n list room middle many l q exit closes = absurd (omega (arith, node-says rows count (action b) w .tag))
-scope-listed rows count k i at (sequence E F) w t named few n list room middle many l q exit closes = absurd (omega (arith, node-says rows count (sequence E F) w .tag))
-scope-listed rows count k i at (choice E F) w t named few n list room middle many l q exit closes = absurd (omega (arith, node-says rows count (choice E F) w .tag))
-scope-listed rows count k i at (parallel E F) w t named few n list room middle many l q exit closes = absurd (omega (arith, node-says rows count (parallel E F) w .tag))
-scope-listed rows count k i at (loop E F G) w t named few n list room middle many l q exit closes = absurd (omega (arith, node-says rows count (loop E F G) w .tag))
-scope-listed rows count k i at (scope a E) w t named few n list room middle {m} many l q exit closes =
-    let h = subst (λ ts. Held m n ts list middle) (append-nil (transitions i E)) (many-held many n (all-actions (E ∷ [])) (transitions i E ++ []) list middle l) in
-    lists-from h room q (actions E) (transitions i (scope a E)) exit (closes count i at a E w named few (held-part h room))
+scope-listed rows count k i at (action b) w t named few full n list room middle many l q exit closes = absurd (omega (arith, node-says rows count (action b) w .tag))
+scope-listed rows count k i at (sequence E F) w t named few full n list room middle many l q exit closes = absurd (omega (arith, node-says rows count (sequence E F) w .tag))
+scope-listed rows count k i at (choice E F) w t named few full n list room middle many l q exit closes = absurd (omega (arith, node-says rows count (choice E F) w .tag))
+scope-listed rows count k i at (parallel E F) w t named few full n list room middle many l q exit closes = absurd (omega (arith, node-says rows count (parallel E F) w .tag))
+scope-listed rows count k i at (loop E F G) w t named few full n list room middle many l q exit closes = absurd (omega (arith, node-says rows count (loop E F G) w .tag))
+scope-listed rows count k i at (scope a E) w t named few full n list room middle {m} many l q exit closes =
+    let h = subst (λ ts. Held m n ts list middle) (append-nil (transitions i E)) (many-held many full n (all-actions (E ∷ [])) (transitions i E ++ []) list middle l) in
+    lists-from h room q full (actions E) (transitions i (scope a E)) exit (closes count i at a E w named few (held-part h room))

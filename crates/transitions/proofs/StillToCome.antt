@@ -7,10 +7,10 @@ use mathlib.Core.List.{List, [], _∷_, _++_, append-assoc, append-nil}
 use lib.ListN.{length, take, length-append}
 use Rattle.algebra.specs.Item.{first}
 use Rattle.algebra.specs.Transitions.{Labelled}
-use Rattle.transitions.specs.Numbers.{flat, second, Fits}
-use Rattle.transitions.specs.Listing.{Stored, Held, Lists, pairs}
-use Rattle.transitions.specs.declared.Listed.{Listed}
-use Rattle.transitions.specs.declared.Listed.the-variants.{Many, TooMany}
+use Rattle.transitions.specs.Numbers.{flat, second}
+use Rattle.transitions.specs.Listing.{Within, Stored, Held, Lists, pairs}
+use Rattle.transitions.specs.declared.Filling.{Filling}
+use Rattle.transitions.specs.declared.Filling.the-variants.{Many, Full}
 use Rattle.transitions.proofs.FlatNumbers.{flat-append}
 use Rattle.transitions.proofs.Weights.{pairs-append}
 
@@ -55,9 +55,9 @@ module _ {entry list : List ℕ} {n₀ n : ℕ} {all : List Labelled} where
   }
 
 -- Lists one after another: of the first and of the rest.
-pub held-then : (r : Listed) {m n : ℕ} (few more : ℕ) (xs ys : List Labelled) {entry list : List ℕ} (exit : List ℕ) → Held m n xs entry list → length xs ≤ few + pairs xs
-    → Lists r m more ys list exit → Lists r n (few + more) (xs ++ ys) entry exit
-held-then (Many k) {m} {n} few more xs ys {entry} {list} exit h small l = record {
+pub held-then : (r : Filling) (room : ℕ) {m n : ℕ} (few more : ℕ) (xs ys : List Labelled) {entry list : List ℕ} (exit : List ℕ) → Held m n xs entry list → length xs ≤ few + pairs xs
+    → Lists r room m more ys list exit → Lists r room n (few + more) (xs ++ ys) entry exit
+held-then (Many k) room {m} {n} few more xs ys {entry} {list} exit h small l = record {
   count = omega (arith, h .count, l .count, length-append xs ys);
   numbers =
       l .numbers
@@ -66,17 +66,17 @@ held-then (Many k) {m} {n} few more xs ys {entry} {list} exit h small l = record
       ∙ ap (λ q. take (3 * n) entry ++ q) (sym (flat-append xs ys));
   long = l .long ∙ h .long;
 }
-held-then TooMany few more xs ys exit h small l = omega (arith, h .count, pairs-append xs ys)
+held-then Full room few more xs ys exit h small l = omega (arith, h .count, pairs-append xs ys)
 
-pub too-many-then : (n few more : ℕ) (xs ys : List Labelled) → 1280 < n + (few + pairs xs) → 1280 < n + (few + more + pairs (xs ++ ys))
-too-many-then n few more xs ys h = omega (arith, pairs-append xs ys)
+pub full-then : (room n few more : ℕ) (xs ys : List Labelled) → room < n + (few + pairs xs) → room < n + (few + more + pairs (xs ++ ys))
+full-then room n few more xs ys h = omega (arith, pairs-append xs ys)
 
 -- An answer that is taken apart.
-pub many-held : {r : Listed} {m : ℕ} → r ≡ Many m → (n few : ℕ) (ts : List Labelled) (entry exit : List ℕ) → Lists r n few ts entry exit → Held m n ts entry exit
-many-held e n few ts entry exit l = subst (λ q. Lists q n few ts entry exit) e l
+pub many-held : {r : Filling} {m : ℕ} → r ≡ Many m → (room n few : ℕ) (ts : List Labelled) (entry exit : List ℕ) → Lists r room n few ts entry exit → Held m n ts entry exit
+many-held e room n few ts entry exit l = subst (λ q. Lists q room n few ts entry exit) e l
 
-pub too-many : {r : Listed} → r ≡ TooMany → (n few : ℕ) (ts : List Labelled) (entry exit : List ℕ) → Lists r n few ts entry exit → 1280 < n + (few + pairs ts)
-too-many e n few ts entry exit l = subst (λ q. Lists q n few ts entry exit) e l
+pub is-full : {r : Filling} → r ≡ Full → (room n few : ℕ) (ts : List Labelled) (entry exit : List ℕ) → Lists r room n few ts entry exit → room < n + (few + pairs ts)
+is-full e room n few ts entry exit l = subst (λ q. Lists q room n few ts entry exit) e l
 
-pub many-fit : {r : Listed} {m : ℕ} → r ≡ Many m → Fits r → m ≤ 1280
-many-fit e f = subst Fits e f
+pub many-fit : {r : Filling} {m : ℕ} → r ≡ Many m → (room : ℕ) → Within r room → m ≤ room
+many-fit e room f = subst (λ q. Within q room) e f

@@ -1,13 +1,13 @@
 -- 01, "Net tables": a transition's "label, first action, second action or 65,535"; and what the list of a plan's transitions is to be.
 use Prim.Native.Nat.{ℕ, _+_, _*_, _≤_, _<_}
 use mathlib.Core.Path.{_≡_}
-use mathlib.Core.List.{List, [], _∷_, _++_}
-use lib.ListN.{length, drop}
+use mathlib.Core.List.{List, [], _∷_}
+use lib.ListN.{length, take}
 use Rattle.field.specs.Limits.{action-limit, transition-limit}
 use Rattle.algebra.specs.Item.{Item, one, two, first}
 use Rattle.algebra.specs.Transitions.{Labelled}
 use Rattle.transitions.specs.declared.Listed.{Listed}
-use Rattle.transitions.specs.declared.Listed.the-variants.{Many, TooMany}
+use Rattle.transitions.specs.declared.Listed.the-variants.{Many, TooMany, NoRoom}
 
 -- "second action or 65,535"
 abbrev pub second : Item → ℕ
@@ -19,15 +19,18 @@ unfoldable pub flat : List Labelled → List ℕ
 flat [] = []
 flat (t ∷ ts) = t .label ∷ (first (t .item) ∷ (second (t .item) ∷ flat ts))
 
--- The transitions are listed from the front, and the rest is as it was; or there are too many of them, and nothing is written.
-abbrev pub ListIs : Listed → List Labelled → List ℕ → List ℕ → Type 0
-ListIs (Many n) ts entry exit = (n ≡ length ts) × (exit ≡ flat ts ++ drop (3 * n) entry)
-ListIs TooMany ts entry exit = (transition-limit < length ts) × (exit ≡ entry)
+-- The transitions are listed from the front, and what lies behind them is work room; or there are too many of them.
+abbrev pub ListIs : Listed → List Labelled → List ℕ → Type 0
+ListIs (Many n) ts exit = (n ≡ length ts) × (take (3 * n) exit ≡ flat ts)
+ListIs TooMany ts exit = transition-limit < length ts
+ListIs NoRoom ts exit = Unit {0}
 
--- As many as the list has room for.
+-- As many as a list needs room for while it is made.
 abbrev pub most : ℕ
 most = action-limit + transition-limit
 
-abbrev pub Fits : Listed → Type 0
-Fits (Many n) = n ≤ most
-Fits TooMany = Unit {0}
+-- What is listed has room in a list of so many numbers; and only one that has not room for the most can be too short.
+abbrev pub Fits : Listed → ℕ → Type 0
+Fits (Many n) long = (3 * n ≤ long) × (n ≤ most)
+Fits TooMany long = Unit {0}
+Fits NoRoom long = long < 3 * most

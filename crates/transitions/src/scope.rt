@@ -2,17 +2,14 @@
 // t (label a), u (label a+128) whose actions part at a parallel field, ordered by t, then u."
 ghost use mathlib.Core.Path.{_≡_};
 ghost use mathlib.Core.List.{List};
-ghost use Prim.Native.Nat.{ℕ, _≤_, _<_};
+ghost use Prim.Native.Nat.{ℕ, _+_, _*_, _≤_, max};
 ghost use lib.ListN.{length, set};
 ghost use Rattle.algebra.specs.Expr.{Expr, actions, scope};
 ghost use Rattle.algebra.specs.Scopes.{ScopesNamed};
 ghost use Rattle.algebra.specs.Transitions.{Labelled, part-at-parallel, kept, transitions};
 ghost use Rattle.plan.specs.Table.{Node};
-ghost use Rattle.transitions.specs.Numbers.{Fits};
-ghost use Rattle.transitions.specs.Listing.{Part, Stored, Found, Held, firsts, Lists, pairs-with, pairs-of};
-use super::LIST;
-use super::Listed;
-use super::MOST;
+ghost use Rattle.transitions.specs.Listing.{Room, Within, Part, Stored, Found, Held, firsts, Lists, pairs-with, pairs-of};
+use super::Filling;
 use super::parting;
 use plan::exclusive::number_at;
 use plan::exclusive::row_number;
@@ -29,23 +26,17 @@ pub fn put_number(s: &mut [u16], i: usize, x: u16)
 }
 
 // Transition t of the list.
-pub fn put(list: &mut [u16; LIST], t: usize, label: u16, first: u16, second: u16)
-    requires { ⌜ t < 1280 ⌝ }
+pub fn put(list: &mut [u16], t: usize, label: u16, first: u16, second: u16)
+    requires { ⌜ 3 * t + 3 ≤ length (now list) ⌝ }
     ensures { λ _. ⌜ Stored t label first second (now (list .entry)) (now (list .exit)) ⌝ }
 {
-    put_number(list, 3 * t, label);
-    put_number(list, 3 * t + 1, first);
-    put_number(list, 3 * t + 2, second);
+    list[3 * t] = label;
+    list[3 * t + 1] = first;
+    list[3 * t + 2] = second;
 }
 
 // The first actions of the transitions with a label, in their order, and how many they are. They are single actions, so 256 places do.
-fn gather(
-    list: &[u16; LIST],
-    start: usize,
-    end: usize,
-    label: usize,
-    found: &mut [u16; 256],
-) -> usize
+fn gather(list: &[u16], start: usize, end: usize, label: usize, found: &mut [u16; 256]) -> usize
     requires { ⌜ (start ≤ 1280) × (end ≤ 1280) ⌝ }
     ensures { λ r. ⌜ ((ts : List Labelled) → Part (now (list .entry)) start end ts → length (firsts label ts) ≤ 256 → Found r (now (found .exit)) (firsts label ts)) ⌝ }
 {
@@ -64,9 +55,9 @@ fn gather(
 }
 
 // Takes the transitions labelled with a name or its conjugate out of a part of the list, and keeps the rest in order.
-fn keep(list: &mut [u16; LIST], start: usize, end: usize, name: usize) -> usize
-    requires { ⌜ (start ≤ 1280) × (end ≤ 1280) × (name ≤ 65535) ⌝ }
-    ensures fits { λ r. ⌜ r ≤ 1280 ⌝ }
+fn keep(list: &mut [u16], start: usize, end: usize, name: usize) -> usize
+    requires { ⌜ (start ≤ 1280) × (end ≤ 1280) × (3 * end ≤ length (now list)) × (name ≤ 65535) ⌝ }
+    ensures fits { λ r. ⌜ r ≤ max start end ⌝ }
     ensures keeps { λ r. ⌜ ((ts : List Labelled) → Part (now (list .entry)) start end ts → Held r start (kept name ts) (now (list .entry)) (now (list .exit))) ⌝ }
 {
     let mut so_far = start;
@@ -89,25 +80,26 @@ fn keep(list: &mut [u16; LIST], start: usize, end: usize, name: usize) -> usize
 
 // Adds a silent transition for action i with each of the others that part from it at a parallel field of node k.
 fn join_one(
-    rows: &[u16; 8196],
+    rows: &[u16],
     k: usize,
     i: u16,
     others: &[u16; 256],
     count: usize,
-    list: &mut [u16; LIST],
+    list: &mut [u16],
+    room: usize,
     n: usize,
-) -> Listed
-    requires { ⌜ (k ≤ 65535) × (n ≤ 1280) ⌝ }
-    ensures fits { λ r. ⌜ Fits r ⌝ }
-    ensures joins { λ r. ⌜ ((nodes f at : ℕ) (E : Expr) (js : List ℕ) → Node (now (rows .entry)) nodes k f at E → Found count (now (others .entry)) js → Lists r n 0 (pairs-with (part-at-parallel f E) i js) (now (list .entry)) (now (list .exit))) ⌝ }
+) -> Filling
+    requires { ⌜ (k ≤ 65535) × (length (now rows) ≤ 8196) × Room room (now list) × (n ≤ room) ⌝ }
+    ensures fits { λ r. ⌜ Within r room ⌝ }
+    ensures joins { λ r. ⌜ ((nodes f at : ℕ) (E : Expr) (js : List ℕ) → Node (now (rows .entry)) nodes k f at E → Found count (now (others .entry)) js → Lists r room n 0 (pairs-with (part-at-parallel f E) i js) (now (list .entry)) (now (list .exit))) ⌝ }
 {
     let mut so_far = n;
     let mut u = 0;
     while u < count {
         let j = number_at(others, u);
         if parting::part_at_parallel(rows, k, wide(i), wide(j)) {
-            if MOST <= so_far {
-                return Listed::TooMany;
+            if room <= so_far {
+                return Filling::Full;
             }
             put(list, so_far, 0, i, j);
             so_far += 1;
@@ -116,39 +108,40 @@ fn join_one(
             u += 1;
         }
     }
-    Listed::Many(so_far)
+    Filling::Many(so_far)
 }
 
 // The same for each of some actions in turn.
 fn join(
-    rows: &[u16; 8196],
+    rows: &[u16],
     k: usize,
     left: &[u16; 256],
     lefts: usize,
     right: &[u16; 256],
     rights: usize,
-    list: &mut [u16; LIST],
+    list: &mut [u16],
+    room: usize,
     n: usize,
-) -> Listed
-    requires { ⌜ (k ≤ 65535) × (n ≤ 1280) ⌝ }
-    ensures fits { λ r. ⌜ Fits r ⌝ }
-    ensures joins { λ r. ⌜ ((nodes f at : ℕ) (E : Expr) (is js : List ℕ) → Node (now (rows .entry)) nodes k f at E → Found lefts (now (left .entry)) is → Found rights (now (right .entry)) js → Lists r n 0 (pairs-of (part-at-parallel f E) is js) (now (list .entry)) (now (list .exit))) ⌝ }
+) -> Filling
+    requires { ⌜ (k ≤ 65535) × (length (now rows) ≤ 8196) × Room room (now list) × (n ≤ room) ⌝ }
+    ensures fits { λ r. ⌜ Within r room ⌝ }
+    ensures joins { λ r. ⌜ ((nodes f at : ℕ) (E : Expr) (is js : List ℕ) → Node (now (rows .entry)) nodes k f at E → Found lefts (now (left .entry)) is → Found rights (now (right .entry)) js → Lists r room n 0 (pairs-of (part-at-parallel f E) is js) (now (list .entry)) (now (list .exit))) ⌝ }
 {
     let mut so_far = n;
     let mut t = 0;
     while t < lefts {
         let i = number_at(left, t);
-        match join_one(rows, k, i, right, rights, list, so_far) {
-            Listed::TooMany => {
-                return Listed::TooMany;
+        match join_one(rows, k, i, right, rights, list, room, so_far) {
+            Filling::Full => {
+                return Filling::Full;
             }
-            Listed::Many(m) => {
+            Filling::Many(m) => {
                 so_far = m;
                 t += 1;
             }
         }
     }
-    Listed::Many(so_far)
+    Filling::Many(so_far)
 }
 
 fn none_found() -> [u16; 256] {
@@ -157,21 +150,22 @@ fn none_found() -> [u16; 256] {
 
 // Closes the scope of node k, whose operand's transitions stand in the list from `start` to `end`.
 pub fn close(
-    rows: &[u16; 8196],
+    rows: &[u16],
     k: usize,
-    list: &mut [u16; LIST],
+    list: &mut [u16],
+    room: usize,
     start: usize,
     end: usize,
-) -> Listed
-    requires { ⌜ (k ≤ 1366) × (start ≤ 1280) × (end ≤ 1280) ⌝ }
-    ensures fits { λ r. ⌜ Fits r ⌝ }
-    ensures closes { λ r. ⌜ ((count i at a : ℕ) (E : Expr) → Node (now (rows .entry)) count k i at (scope a E) → ScopesNamed (scope a E) → actions E ≤ 256 → Part (now (list .entry)) start end (transitions i E) → Lists r start (actions E) (transitions i (scope a E)) (now (list .entry)) (now (list .exit))) ⌝ }
+) -> Filling
+    requires { ⌜ (k ≤ 1366) × (length (now rows) ≤ 8196) × Room room (now list) × (start ≤ room) × (end ≤ room) ⌝ }
+    ensures fits { λ r. ⌜ Within r room ⌝ }
+    ensures closes { λ r. ⌜ ((count i at a : ℕ) (E : Expr) → Node (now (rows .entry)) count k i at (scope a E) → ScopesNamed (scope a E) → actions E ≤ 256 → Part (now (list .entry)) start end (transitions i E) → Lists r room start (actions E) (transitions i (scope a E)) (now (list .entry)) (now (list .exit))) ⌝ }
 {
     let name = row_number(rows, k, BYTE);
     let mut left = none_found();
     let lefts = gather(list, start, end, name, &mut left);
     let mut right = none_found();
     let rights = gather(list, start, end, name + 128, &mut right);
-    let so_far = keep(list, start, end, name);
-    join(rows, k + 1, &left, lefts, &right, rights, list, so_far)
+    let kept = keep(list, start, end, name);
+    join(rows, k + 1, &left, lefts, &right, rights, list, room, kept)
 }

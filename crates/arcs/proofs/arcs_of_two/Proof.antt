@@ -9,31 +9,31 @@ use Rattle.arcs.proofs.arcs_of_two.Tie as tie
 
 arcs-of-action-requires : tie.Need-arcs-of-action-requires
 arcs-of-action-requires c κs =
-    let s = c .before in
+    let s = c .before .before .before in
     let a = s .args in
-    asked-first (a .rows .now) (a .nodes) (a .counts .now) (a .i) (a .j) (s .pre)
+    (asked-first (a .rows .now) (a .nodes) (a .counts .now) (a .i) (a .j) (s .pre .0), s .pre .1)
 
 arcs-of-action-requires-2 : tie.Need-arcs-of-action-requires-2
 arcs-of-action-requires-2 c κs =
-    let s = c .before .before .before in
+    let s = c .before .before .before .before .before in
     let a = s .args in
-    asked-second (a .rows .now) (a .nodes) (a .counts .now) (a .i) (a .j) (s .pre)
+    (asked-second (a .rows .now) (a .nodes) (a .counts .now) (a .i) (a .j) (s .pre .0), s .pre .1)
 
 numbers-in-requires : tie.Need-numbers-in-requires
 numbers-in-requires c κs = search needs
 
 merge-requires : tie.Need-merge-requires
 merge-requires c κs =
-    let s = c .before .before .before .before .before .before .before .before .before .before in
+    let s = c .before .before .before .before .before .before .before .before .before .before .before .before in
     let a = s .args in
     let o : length (a .out .now) ≡ 2048 = search needs in
     let first = c .before .before .before .before .before .before .before .before .arcs-of-action in
     let second = c .before .before .before .before .before .before .arcs-of-action2 in
-    mergeable (a .rows .now) (a .nodes) (a .counts .now) (a .i) (a .j) (a .side) _ _ (first .result) (second .result) (first .ensures) (second .ensures) (a .out .now) o (s .pre)
+    mergeable (a .rows .now) (a .nodes) (a .counts .now) (a .i) (a .j) (a .side) _ _ (first .result) (second .result) (first .ensures) (second .ensures) (a .out .now) o (s .pre .0)
 
 returns : tie.Need-returns
 returns c =
-    let a = c .before .before .before .before .before .before .before .before .before .before .before .args in
+    let a = c .before .before .before .before .before .before .before .before .before .before .before .before .before .args in
     let first = c .before .before .before .before .before .before .before .before .before .arcs-of-action in
     let second = c .before .before .before .before .before .before .before .arcs-of-action2 in
     two-arcs (a .rows .now) (a .nodes) (a .counts .now) (a .i) (a .j) (a .side) _ _ (first .result) (second .result) (first .ensures) (second .ensures) _ (c .merge .result) (c .merge .ensures)

@@ -1,7 +1,7 @@
 -- `compile_large` meets its contract: what is built in a large room is lent.
 -- Assumes nothing.
-use mathlib.Core.Path.{_≡_, _∙_}
-use lib.ListN.{length}
+use native.Mathlib.Omega.{arith}
+use mathlib.Core.Path.{refl, _∙_}
 use Rattle.compile.proofs.CompileCall.{large-room}
 use borrow.Author.Needs.{needs}
 use Rattle.compile.proofs.compile_large.Statement.{statement}
@@ -13,6 +13,15 @@ slice-aggregate-build c = search needs
 slice-aggregate-build-2 : tie.Need-slice-aggregate-build-2
 slice-aggregate-build-2 c = search needs
 
+slice-aggregate-build-3 : tie.Need-slice-aggregate-build-3
+slice-aggregate-build-3 c = search needs
+
+slice-aggregate-build-4 : tie.Need-slice-aggregate-build-4
+slice-aggregate-build-4 c = search needs
+
+slice-aggregate-build-5 : tie.Need-slice-aggregate-build-5
+slice-aggregate-build-5 c = search needs
+
 build-requires : tie.Need-build-requires
 build-requires c κs = search needs
 
@@ -23,7 +32,7 @@ slice-aggregate-lend-2 : tie.Need-slice-aggregate-lend-2
 slice-aggregate-lend-2 c = search needs
 
 lend-requires : tie.Need-lend-requires
-lend-requires c κs = search needs
+lend-requires c κs = record { plan = c .before .before .before .before .before .before .before .before .before .before .before .before .before .before .before .before .before .before .before .before .args .plan .now; is = c .before .before .before .before .before .before .before .before .before .before .build .ensures .0 }
 
 same-length : tie.Need-same-length
 same-length c = search needs
@@ -36,10 +45,10 @@ same-length-3 c = search needs
 
 returns : tie.Need-returns
 returns c =
-    let plan = c .before .before .before .before .before .before .before .before .before .before .before .before .before .before .before .before .before .before .before .before .before .args .plan .now in
-    let b = c .before .before .before .before .before .before .before .before .before .before .before .before .before .before .build in
-    let l = c .before .before .before .before .before .before .lend .ensures plan (b .ensures) in
-    (l .tries, l .room ∙ large-room plan (b .result) (b .last .1 .0) (b .last .1 .1 .0) (b .ensures) (c .before .before .before .before .before .before .before .before .before .before .before .before .before .made-rows2 .given) (c .before .before .before .before .before .before .before .before .before .before .before .before .made-arcs2 .given))
+    let plan = c .before .before .before .before .before .before .before .before .before .before .before .before .before .before .before .before .before .before .before .before .before .before .before .before .before .before .before .args .plan .now in
+    let b = c .before .before .before .before .before .before .before .before .before .before .before .before .before .before .before .before .before .build in
+    let l = c .before .before .before .before .before .before .lend .ensures plan (b .ensures .0) in
+    (l .tries, l .room ∙ large-room (b .result) _ _ _ (b .ensures .1) refl refl refl)
 
 pub compile-large-spec : {M : Type 1} → statement M
 compile-large-spec =
@@ -47,6 +56,9 @@ compile-large-spec =
     (tie.spec
     slice-aggregate-build
     slice-aggregate-build-2
+    slice-aggregate-build-3
+    slice-aggregate-build-4
+    slice-aggregate-build-5
     build-requires
     slice-aggregate-lend
     slice-aggregate-lend-2

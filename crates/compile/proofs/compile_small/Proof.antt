@@ -1,5 +1,7 @@
 -- `compile_small` meets its contract: what is built in a small room is lent.
 -- Assumes nothing.
+use native.Mathlib.Omega.{arith}
+use mathlib.Core.Path.{refl, _∙_}
 use borrow.Author.Needs.{needs}
 use Rattle.compile.proofs.compile_small.Statement.{statement}
 use Rattle.compile.proofs.compile_small.Tie as tie
@@ -9,6 +11,15 @@ slice-aggregate-build c = search needs
 
 slice-aggregate-build-2 : tie.Need-slice-aggregate-build-2
 slice-aggregate-build-2 c = search needs
+
+slice-aggregate-build-3 : tie.Need-slice-aggregate-build-3
+slice-aggregate-build-3 c = search needs
+
+slice-aggregate-build-4 : tie.Need-slice-aggregate-build-4
+slice-aggregate-build-4 c = search needs
+
+slice-aggregate-build-5 : tie.Need-slice-aggregate-build-5
+slice-aggregate-build-5 c = search needs
 
 build-requires : tie.Need-build-requires
 build-requires c κs = search needs
@@ -20,7 +31,7 @@ slice-aggregate-lend-2 : tie.Need-slice-aggregate-lend-2
 slice-aggregate-lend-2 c = search needs
 
 lend-requires : tie.Need-lend-requires
-lend-requires c κs = search needs
+lend-requires c κs = record { plan = c .before .before .before .before .before .before .before .before .before .before .before .before .before .before .before .before .before .before .before .before .args .plan .now; is = c .before .before .before .before .before .before .before .before .before .before .build .ensures .0 }
 
 same-length : tie.Need-same-length
 same-length c = search needs
@@ -32,7 +43,7 @@ same-length-3 : tie.Need-same-length-3
 same-length-3 c = search needs
 
 returns : tie.Need-returns
-returns c = c .before .before .before .before .before .before .lend .ensures (c .before .before .before .before .before .before .before .before .before .before .before .before .before .before .before .before .before .before .before .before .before .args .plan .now) (c .before .before .before .before .before .before .before .before .before .before .before .before .before .before .build .ensures) .tries
+returns c = c .before .before .before .before .before .before .lend .ensures (c .before .before .before .before .before .before .before .before .before .before .before .before .before .before .before .before .before .before .before .before .before .before .before .before .before .before .before .args .plan .now) (c .before .before .before .before .before .before .before .before .before .before .before .before .before .before .before .before .before .build .ensures .0) .tries
 
 pub compile-small-spec : {M : Type 1} → statement M
 compile-small-spec =
@@ -40,6 +51,9 @@ compile-small-spec =
     (tie.spec
     slice-aggregate-build
     slice-aggregate-build-2
+    slice-aggregate-build-3
+    slice-aggregate-build-4
+    slice-aggregate-build-5
     build-requires
     slice-aggregate-lend
     slice-aggregate-lend-2

@@ -53,8 +53,8 @@ operands-claims t = (field-below t, field.Post, operands-below t, operands.Post)
 abbrev InAction : ℕ → Type 0
 InAction t = field-lts.After-known-told2 (field-claims t) (field-at t) field.Post
 
-action-fits : (t : ℕ) (c : InAction t) → (4 ≤ length (c .before .before .before .before .before .before .args .s .now)) × (c .before .before .before .before .before .before .args .actions < 256)
-action-fits t c = subst (λ (h : Head). HeadFits h (length (c .before .before .before .before .before .before .args .s .now)) (c .before .before .before .before .before .before .args .actions)) (c .before .label .given .1) (c .before .before .before .look .ensures .0)
+action-fits : (t : ℕ) (c : InAction t) → (4 ≤ length (c .before .before .before .before .before .before .before .args .s .now)) × (c .before .before .before .before .before .before .before .args .actions < 256)
+action-fits t c = subst (λ (h : Head). HeadFits h (length (c .before .before .before .before .before .before .before .args .s .now)) (c .before .before .before .before .before .before .before .args .actions)) (c .before .label .given .1) (c .before .before .before .look .ensures .0)
 
 -- read_field, in the arm of an operator
 
@@ -67,21 +67,21 @@ start t c = c .before .tag .given .0 .1 .1 .1 .0
 abbrev len : (t : ℕ) → InOperator t → ℕ
 len t c = c .before .tag .given .0 .1 .1 .1 .1 .0
 
-operator-fits : (t : ℕ) (c : InOperator t) → (3 ≤ start t c) × (start t c + len t c ≤ length (c .before .before .before .before .before .before .args .s .now)) × (c .before .tag .given .0 .1 .1 .0 ≤ 3)
-operator-fits t c = subst (λ (h : Head). HeadFits h (length (c .before .before .before .before .before .before .args .s .now)) (c .before .before .before .before .before .before .args .actions)) (c .before .tag .given .1) (c .before .before .before .look .ensures .0)
+operator-fits : (t : ℕ) (c : InOperator t) → (3 ≤ start t c) × (start t c + len t c ≤ length (c .before .before .before .before .before .before .before .args .s .now)) × (c .before .tag .given .0 .1 .1 .0 ≤ 3)
+operator-fits t c = subst (λ (h : Head). HeadFits h (length (c .before .before .before .before .before .before .before .args .s .now)) (c .before .before .before .before .before .before .before .args .actions)) (c .before .tag .given .1) (c .before .before .before .look .ensures .0)
 
-body-long : (t : ℕ) (c : InOperator t) → length (take (start t c + len t c - start t c) (drop (start t c) (c .before .before .before .before .before .before .args .s .now))) ≡ len t c
-body-long t c = body-length (start t c) (len t c) (c .before .before .before .before .before .before .args .s .now) (operator-fits t c .1)
+body-long : (t : ℕ) (c : InOperator t) → length (take (start t c + len t c - start t c) (drop (start t c) (c .before .before .before .before .before .before .before .args .s .now))) ≡ len t c
+body-long t c = body-length (start t c) (len t c) (c .before .before .before .before .before .before .before .args .s .now) (operator-fits t c .1)
 
 -- read_field, where the operands are read
 
 abbrev AllRead : ℕ → Type 0
 AllRead t = field-lts.After-known-told5 (field-claims t) (field-at t) field.Post
 
-operands-fit : (t : ℕ) (c : AllRead t) → (3 * c .before .nodes .given .0 .0 ≤ 3 * (c .before .before .before .before .before .before .before .before .before .before .before .before .args .node + 1) + len t (c .before .before .before .before .before .before)) × (c .before .nodes .given .0 .1 .0 ≤ 256)
+operands-fit : (t : ℕ) (c : AllRead t) → (3 * c .before .nodes .given .0 .0 ≤ 3 * (c .before .before .before .before .before .before .before .before .before .before .before .before .before .before .before .args .node + 1) + len t (c .before .before .before .before .before .before .before .before)) × (c .before .nodes .given .0 .1 .0 ≤ 256)
 operands-fit t c =
-    subst (λ (l : ℕ). (3 * c .before .nodes .given .0 .0 ≤ 3 * (c .before .before .before .before .before .before .before .before .before .before .before .before .args .node + 1) + l) × (c .before .nodes .given .0 .1 .0 ≤ 256)) (body-long t (c .before .before .before .before .before .before))
-    (subst (λ (h : OperandsRead). OperandsFit h (length (take (start t (c .before .before .before .before .before .before) + len t (c .before .before .before .before .before .before) - start t (c .before .before .before .before .before .before)) (drop (start t (c .before .before .before .before .before .before)) (c .before .before .before .before .before .before .before .before .before .before .before .before .args .s .now)))) (c .before .before .before .before .before .before .before .before .before .before .before .before .args .node + 1)) (c .before .nodes .given .1) (c .before .before .before .read-operands .ensures .0))
+    subst (λ (l : ℕ). (3 * c .before .nodes .given .0 .0 ≤ 3 * (c .before .before .before .before .before .before .before .before .before .before .before .before .before .before .before .args .node + 1) + l) × (c .before .nodes .given .0 .1 .0 ≤ 256)) (body-long t (c .before .before .before .before .before .before .before .before))
+    (subst (λ (h : OperandsRead). OperandsFit h (length (take (start t (c .before .before .before .before .before .before .before .before) + len t (c .before .before .before .before .before .before .before .before) - start t (c .before .before .before .before .before .before .before .before)) (drop (start t (c .before .before .before .before .before .before .before .before)) (c .before .before .before .before .before .before .before .before .before .before .before .before .before .before .before .args .s .now)))) (c .before .before .before .before .before .before .before .before .before .before .before .before .before .before .before .args .node + 1)) (c .before .nodes .given .1) (c .before .before .before .before .before .read-operands .ensures .0))
 
 -- read_operands, where an operand is read
 
@@ -91,22 +91,22 @@ OneRead t = operands-lts.After-known-told2 (operands-claims t) (operands-at t) o
 abbrev used : (t : ℕ) → OneRead t → ℕ
 used t c = c .before .used .given .0 .0
 
-field-fits : (t : ℕ) (c : OneRead t) → (3 ≤ used t c) × (used t c ≤ length (c .before .before .before .before .before .before .before .before .args .s .now)) × (3 * c .before .used .given .0 .1 .0 ≤ 3 * c .before .before .before .before .before .before .before .before .args .node + used t c) × (c .before .used .given .0 .1 .1 .0 ≤ 256)
-field-fits t c = subst (λ (h : FieldRead). FieldFits h (length (c .before .before .before .before .before .before .before .before .args .s .now)) (c .before .before .before .before .before .before .before .before .args .node)) (c .before .used .given .1) (c .before .before .before .read-field .ensures .0)
+field-fits : (t : ℕ) (c : OneRead t) → (3 ≤ used t c) × (used t c ≤ length (c .before .before .before .before .before .before .before .before .before .before .before .args .s .now)) × (3 * c .before .used .given .0 .1 .0 ≤ 3 * c .before .before .before .before .before .before .before .before .before .before .before .args .node + used t c) × (c .before .used .given .0 .1 .1 .0 ≤ 256)
+field-fits t c = subst (λ (h : FieldRead). FieldFits h (length (c .before .before .before .before .before .before .before .before .before .before .before .args .s .now)) (c .before .before .before .before .before .before .before .before .before .before .before .args .node)) (c .before .used .given .1) (c .before .before .before .before .before .read-field .ensures .0)
 
-rest-long : (t : ℕ) (c : OneRead t) → length (take (length (c .before .before .before .before .before .before .before .before .args .s .now) - used t c) (drop (used t c) (c .before .before .before .before .before .before .before .before .args .s .now))) ≡ length (c .before .before .before .before .before .before .before .before .args .s .now) - used t c
-rest-long t c = rest-length (used t c) (c .before .before .before .before .before .before .before .before .args .s .now)
+rest-long : (t : ℕ) (c : OneRead t) → length (take (length (c .before .before .before .before .before .before .before .before .before .before .before .args .s .now) - used t c) (drop (used t c) (c .before .before .before .before .before .before .before .before .before .before .before .args .s .now))) ≡ length (c .before .before .before .before .before .before .before .before .before .before .before .args .s .now) - used t c
+rest-long t c = rest-length (used t c) (c .before .before .before .before .before .before .before .before .before .before .before .args .s .now)
 
 -- the ways out of read_field
 
 field-returns : (t : ℕ) → field-lts.Need-returns (field-claims t) (field-at t) field.Post
 field-returns t c =
-    let a = c .before .before .args in
+    let a = c .before .before .before .args in
     (tt, field-too-deep (a .levels) (a .s .now) (a .at) (a .actions) (a .node) (a .rows .now) (a .rows .now) (c .if1 .taken))
 
 field-returns-2 : (t : ℕ) → field-lts.Need-returns-2 (field-claims t) (field-at t) field.Post
 field-returns-2 t c =
-    let a = c .before .before .before .before .before .before .args in
+    let a = c .before .before .before .before .before .before .before .args in
     let l = c .before .before .before .look in (
       tt,
       field-refused (a .levels) (a .s .now) (a .at) (a .actions) (a .node) (a .rows .now) (a .rows .now) (l .result) (c .before .before .before .before .if1 .left) (l .ensures .1)
@@ -115,20 +115,20 @@ field-returns-2 t c =
 
 field-returns-3 : (t : ℕ) → field-lts.Need-returns-3 (field-claims t) (field-at t) field.Post
 field-returns-3 t c =
-    let b = c .before .before in
-    let a = b .before .before .before .before .before .before .args in
+    let b = c .before .before .before .before in
+    let a = b .before .before .before .before .before .before .before .args in
     let l = b .before .before .before .look in (
       omega (arith, action-fits t b),
-      field-action (a .levels) (a .s .now) (a .at) (a .actions) (a .node) (a .rows .now) (c .put-row .last .0) (l .result) (b .before .before .before .before .if1 .left) (l .ensures .1)
-          (b .before .label .given .0 .0) (b .before .label .given .1) (c .put-row .ensures),
+      field-action (a .levels) (a .s .now) (a .at) (a .actions) (a .node) (a .rows .now) (c .before .before .put-row .last .0) (l .result) (b .before .before .before .before .if1 .left) (l .ensures .1)
+          (b .before .label .given .0 .0) (b .before .label .given .1) (c .before .before .put-row .ensures),
     )
 
 field-returns-4 : (t : ℕ) → field-lts.Need-returns-4 (field-claims t) (field-at t) field.Post
 field-returns-4 t c =
-    let b = c .before .before .before .before .before .before in
-    let a = b .before .before .before .before .before .before .args in
+    let b = c .before .before .before .before .before .before .before .before in
+    let a = b .before .before .before .before .before .before .before .args in
     let l = b .before .before .before .look in
-    let o = c .before .before .before .read-operands in
+    let o = c .before .before .before .before .before .read-operands in
     let g = b .before .tag .given in (
       tt,
       field-operands-refused (a .levels) (a .s .now) (a .at) (a .actions) (a .node) (a .rows .now) (o .last .1 .1 .1 .1 .1 .1 .0) (l .result) (b .before .before .before .before .if1 .left) (l .ensures .1)
@@ -138,55 +138,55 @@ field-returns-4 t c =
 
 field-returns-5 : (t : ℕ) → field-lts.Need-returns-5 (field-claims t) (field-at t) field.Post
 field-returns-5 t c =
-    let b = c .before .before .before .before .before .before .before .before in
-    let a = b .before .before .before .before .before .before .args in
+    let b = c .before .before .before .before .before .before .before .before .before .before .before .before in
+    let a = b .before .before .before .before .before .before .before .args in
     let l = b .before .before .before .look in
-    let o = c .before .before .before .before .before .read-operands in
-    let n = c .before .before .before .nodes .given in
+    let o = c .before .before .before .before .before .before .before .before .before .read-operands in
+    let n = c .before .before .before .before .before .nodes .given in
     let g = b .before .tag .given in (
-      omega (arith, operands-fit t (c .before .before), operator-fits t b),
+      omega (arith, operands-fit t (c .before .before .before .before), operator-fits t b),
       field-operator (a .levels) (a .s .now) (a .at) (a .actions) (a .node) (a .rows .now) (o .last .1 .1 .1 .1 .1 .1 .0) (l .result) (b .before .before .before .before .if1 .left) (l .ensures .1)
           (g .0 .0) (g .0 .1 .0) (g .0 .1 .1 .0) (start t b) (len t b) (g .1) (o .result) (o .ensures .1)
-          (n .0 .0) (n .0 .1 .0) (c .put-row2 .last .0) (n .1) (c .put-row2 .ensures),
+          (n .0 .0) (n .0 .1 .0) (c .before .before .put-row2 .last .0) (n .1) (c .before .before .put-row2 .ensures),
     )
 
 -- the ways out of read_operands
 
 operands-returns : (t : ℕ) → operands-lts.Need-returns (operands-claims t) (operands-at t) operands.Post
 operands-returns t c =
-    let a = c .before .before .before .args in
+    let a = c .before .before .before .before .args in
     (tt, operands-left-over (read-field (a .levels)) (a .members) (a .s .now) (a .at) (a .actions) (a .node) (a .rows .now) (a .rows .now) (c .before .if1 .taken) (omega arith))
 
 operands-returns-2 : (t : ℕ) → operands-lts.Need-returns-2 (operands-claims t) (operands-at t) operands.Post
 operands-returns-2 t c =
-    let a = c .before .before .before .args in
+    let a = c .before .before .before .before .args in
     (omega arith, operands-done (read-field (a .levels)) (a .members) (a .s .now) (a .at) (a .actions) (a .node) (a .rows .now) (c .before .if1 .taken) (omega arith))
 
 operands-returns-3 : (t : ℕ) → operands-lts.Need-returns-3 (operands-claims t) (operands-at t) operands.Post
 operands-returns-3 t c =
-    let a = c .before .before .before .args in
+    let a = c .before .before .before .before .args in
     (tt, operands-missing (read-field (a .levels)) (a .members) (a .s .now) (a .at) (a .actions) (a .node) (a .rows .now) (a .rows .now) (c .before .if1 .left) (c .if3 .taken))
 
 operands-returns-4 : (t : ℕ) → operands-lts.Need-returns-4 (operands-claims t) (operands-at t) operands.Post
 operands-returns-4 t c =
-    let a = c .before .before .before .before .before .before .before .before .args in
-    let f = c .before .before .before .read-field in
+    let a = c .before .before .before .before .before .before .before .before .before .before .before .args in
+    let f = c .before .before .before .before .before .read-field in
     let g = c .before .number .given in (
       tt,
       operands-refused (read-field (a .levels)) (a .members) (a .s .now) (a .at) (a .actions) (a .node) (a .rows .now) (f .last .1 .1 .1 .1 .1 .0) (f .result) (g .0 .0) (g .0 .1 .0)
-          (c .before .before .before .before .before .before .if1 .left) (c .before .before .before .before .before .if3 .left) (f .ensures .1) (g .1),
+          (c .before .before .before .before .before .before .before .before .if1 .left) (c .before .before .before .before .before .before .before .if3 .left) (f .ensures .1) (g .1),
     )
 
 operands-returns-5 : (t : ℕ) → operands-lts.Need-returns-5 (operands-claims t) (operands-at t) operands.Post
 operands-returns-5 t c =
-    let b = c .before .before .before in
-    let a = b .before .before .before .before .before .before .before .before .args in
-    let f = b .before .before .before .read-field in
-    let o = c .read-operands in
+    let b = c .before .before .before .before .before in
+    let a = b .before .before .before .before .before .before .before .before .before .before .before .args in
+    let f = b .before .before .before .before .before .read-field in
+    let o = c .before .before .read-operands in
     let g = b .before .used .given in (
       rest-fits (o .result) (length (a .s .now)) _ (a .node) (g .0 .1 .0) (used t b) (o .ensures .0) (rest-long t b) (field-fits t b .1) (field-fits t b .2),
       operands-more (a .levels) (a .members) (a .s .now) (a .at) (a .actions) (a .node) (a .rows .now) (f .last .1 .1 .1 .1 .1 .0) (o .last .1 .1 .1 .1 .1 .1 .0)
-          (f .result) (used t b) (g .0 .1 .0) (g .0 .1 .1 .0) (o .result) (b .before .before .before .before .before .before .if1 .left) (b .before .before .before .before .before .if3 .left) (f .ensures .1) (g .1) (field-fits t b .1) (o .ensures .1),
+          (f .result) (used t b) (g .0 .1 .0) (g .0 .1 .1 .0) (o .result) (b .before .before .before .before .before .before .before .before .if1 .left) (b .before .before .before .before .before .before .before .if3 .left) (f .ensures .1) (g .1) (field-fits t b .1) (o .ensures .1),
     )
 
 pub +read-field+read-operands-spec : {M : Type 1} → statement M
@@ -200,8 +200,8 @@ pub +read-field+read-operands-spec : {M : Type 1} → statement M
     (λ c. search needs)
     (λ c. omega (arith, action-fits t (c .before)))
     (λ c κs. omega (arith, action-fits t (c .before)))
-    (λ c. omega (arith, action-fits t (c .before .before)))
-    (λ c. omega (arith, action-fits t (c .before .before)))
+    (λ c. omega (arith, action-fits t (c .before .before .before .before)))
+    (λ c. omega (arith, action-fits t (c .before .before .before .before)))
     (λ c. search needs)
     (λ c. omega (arith, operator-fits t c))
     (λ c. omega (arith, operator-fits t c))
@@ -213,10 +213,13 @@ pub +read-field+read-operands-spec : {M : Type 1} → statement M
     (λ c κs. omega (arith, body-long t (c .before .before), operator-fits t (c .before .before)))
     (λ c. search needs)
     (λ c. search needs)
-    (λ c κs. omega (arith, operands-fit t (c .before), operator-fits t (c .before .before .before .before .before .before .before)))
+    (λ c κs. omega (arith, operands-fit t (c .before), operator-fits t (c .before .before .before .before .before .before .before .before .before)))
     (field-returns-2 t)
+    (λ c. search needs)
     (field-returns-3 t)
+    (λ c. search needs)
     (field-returns-4 t)
+    (λ c. search needs)
     (field-returns-5 t))
     (λ t.
     operands-lts.spec (operands-claims t) (operands-at t) operands.Post
@@ -232,5 +235,7 @@ pub +read-field+read-operands-spec : {M : Type 1} → statement M
     (λ c. omega (arith, field-fits t (c .before)))
     (λ c. omega (arith, field-fits t (c .before)))
     (λ c κs. omega (arith, rest-long t (c .before .before), field-fits t (c .before .before)))
+    (λ c. search needs)
     (operands-returns-4 t)
+    (λ c. search needs)
     (operands-returns-5 t))

@@ -20,6 +20,15 @@ slice-aggregate-build c = search needs
 slice-aggregate-build-2 : tie.Need-slice-aggregate-build-2
 slice-aggregate-build-2 c = search needs
 
+slice-aggregate-build-3 : tie.Need-slice-aggregate-build-3
+slice-aggregate-build-3 c = search needs
+
+slice-aggregate-build-4 : tie.Need-slice-aggregate-build-4
+slice-aggregate-build-4 c = search needs
+
+slice-aggregate-build-5 : tie.Need-slice-aggregate-build-5
+slice-aggregate-build-5 c = search needs
+
 build-requires : tie.Need-build-requires
 build-requires c κs = search needs
 
@@ -33,14 +42,14 @@ slice-aggregate-replay-built-2 : tie.Need-slice-aggregate-replay-built-2
 slice-aggregate-replay-built-2 c = search needs
 
 replay-built-requires : tie.Need-replay-built-requires
-replay-built-requires c κs = search needs
+replay-built-requires c κs = record { plan = c .before .before .before .before .before .before .before .before .before .before .before .before .before .before .before .before .before .before .before .before .args .plan .now; is = c .before .before .before .before .before .before .before .before .before .before .build .ensures .0 }
 
 same-length-2 : tie.Need-same-length-2
 same-length-2 c = search needs
 
 returns-2 : tie.Need-returns-2
 returns-2 c =
-    let l = c .before .before .replay-built .ensures (c .before .before .before .before .before .before .before .before .before .before .before .before .before .before .before .before .before .args .plan .now) (c .before .before .before .before .before .before .before .before .before .before .build .ensures) (sym (c .before .before .before .before .before .before .before .found-room .ensures) ∙ c .before .before .before .before .before .before .if2 .taken) in
+    let l = c .before .before .replay-built .ensures (c .before .before .before .before .before .before .before .before .before .before .before .before .before .before .before .before .before .before .before .before .before .before .before .args .plan .now) (c .before .before .before .before .before .before .before .before .before .before .before .before .before .build .ensures .0) (sym (c .before .before .before .before .before .before .before .found-room .ensures) ∙ c .before .before .before .before .before .before .if2 .taken) in
     (l .verdict, l .buffer-is)
 
 replay-large-requires-2 : tie.Need-replay-large-requires-2
@@ -61,6 +70,9 @@ replay-spec =
     returns
     slice-aggregate-build
     slice-aggregate-build-2
+    slice-aggregate-build-3
+    slice-aggregate-build-4
+    slice-aggregate-build-5
     build-requires
     found-room-requires
     slice-aggregate-replay-built

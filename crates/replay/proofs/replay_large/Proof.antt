@@ -1,5 +1,6 @@
 -- `replay_large`: what is built in room for any net is replayed.
 -- Assumes nothing.
+use mathlib.Core.Path.{refl}
 use Rattle.compile.proofs.CompileCall.{large-room}
 use borrow.Author.Needs.{needs}
 use Rattle.replay.proofs.replay_large.Statement.{statement}
@@ -10,6 +11,15 @@ slice-aggregate-build c = search needs
 
 slice-aggregate-build-2 : tie.Need-slice-aggregate-build-2
 slice-aggregate-build-2 c = search needs
+
+slice-aggregate-build-3 : tie.Need-slice-aggregate-build-3
+slice-aggregate-build-3 c = search needs
+
+slice-aggregate-build-4 : tie.Need-slice-aggregate-build-4
+slice-aggregate-build-4 c = search needs
+
+slice-aggregate-build-5 : tie.Need-slice-aggregate-build-5
+slice-aggregate-build-5 c = search needs
 
 build-requires : tie.Need-build-requires
 build-requires c κs = search needs
@@ -28,9 +38,8 @@ same-length c = search needs
 
 returns : tie.Need-returns
 returns c =
-    let plan = c .before .before .before .before .before .before .before .before .before .before .before .before .before .before .args .plan .now in
-    let b = c .before .before .before .before .before .before .before .before .build in
-    c .before .before .replay-built .ensures plan (b .ensures) (large-room plan (b .result) (b .last .1 .0) (b .last .1 .1 .0) (b .ensures) (c .before .before .before .before .before .before .before .rows2 .given) (c .before .before .before .before .before .before .arcs2 .given))
+    let b = c .before .before .before .before .before .before .before .before .before .before .before .build in
+    c .before .before .replay-built .ensures (c .before .before .before .before .before .before .before .before .before .before .before .before .before .before .before .before .before .before .before .before .args .plan .now) (b .ensures .0) (large-room (b .result) _ _ _ (b .ensures .1) refl refl refl)
 
 pub replay-large-spec : {M : Type 1} → statement M
 replay-large-spec =
@@ -38,6 +47,9 @@ replay-large-spec =
     (tie.spec
     slice-aggregate-build
     slice-aggregate-build-2
+    slice-aggregate-build-3
+    slice-aggregate-build-4
+    slice-aggregate-build-5
     build-requires
     slice-aggregate-replay-built
     slice-aggregate-replay-built-2

@@ -9,8 +9,8 @@ use borrow.Fn.PlainCycle.{Measures, is, falls, and}
 use Rattle.plan.proofs.exclusive.row_number.Reads as row-number-reads
 use Rattle.plan.proofs.exclusive.number_at.Reads as number-at-reads
 use Rattle.transitions.proofs.StillToCome.{many-fit}
-use Rattle.transitions.proofs.ListedOperands.{no-room-for-action, action-listed, operands-listed, operands-too-many, operator-listed, scope-listed}
-use Rattle.transitions.proofs.WholeLists.{none-listed, operand-inside, too-many-listed, all-listed}
+use Rattle.transitions.proofs.ListedOperands.{no-room-for-action, action-listed, operands-listed, operands-full, operator-listed, scope-listed}
+use Rattle.transitions.proofs.WholeLists.{none-listed, operand-inside, full-listed, all-listed}
 use Rattle.transitions.proofs.scope.put.Reads as put-reads
 use Rattle.transitions.proofs.scope.close.Reads as close-reads
 use Rattle.transitions.proofs.list_field.Reads as field
@@ -51,84 +51,84 @@ operands-claims t = (row-number-reads.Asked, row-number-reads.Learnt, field-belo
 
 field-returns : (t : ℕ) → field-lts.Need-returns (field-claims t) (field-at t) field.Post
 field-returns t c =
-    let a = c .before .before .before .before .args in
-    (tt, λ count i at E w e s few long. no-room-for-action (a .rows .now) count (a .k) i at E w (a .n) (a .list .now) (c .if2 .taken))
+    let a = c .before .before .before .before .before .args in
+    (tt, λ count i at E w e s few. no-room-for-action (a .rows .now) count (a .k) i at E w (a .room) (a .n) (a .list .now) (c .if2 .taken))
 
 field-returns-2 : (t : ℕ) → field-lts.Need-returns-2 (field-claims t) (field-at t) field.Post
 field-returns-2 t c =
-    let a = c .before .before .before .before .before .before .before .before .before .before .args in (
+    let a = c .before .before .before .before .before .before .before .before .before .before .before .args in (
       omega arith,
-      λ count i at E w e s few long.
-          action-listed (a .rows .now) count (a .k) i at E w (a .n) (a .list .now) (sym (c .before .before .before .before .before .before .before .before .row-number .ensures .0) ∙ c .before .before .before .before .before .before .before .if1 .taken) (c .before .before .before .before .number-at .ensures) (c .before .before .number-at2 .ensures) (c .put .ensures),
+      λ count i at E w e s few.
+          action-listed (a .rows .now) count (a .k) i at E w (a .room) (a .n) (a .list .now) (sym (c .before .before .before .before .before .before .before .before .row-number .ensures .0) ∙ c .before .before .before .before .before .before .before .if1 .taken) (c .before .before .before .before .before .number-at .ensures) (c .before .before .before .before .number-at2 .ensures) (c .before .before .put .ensures),
     )
 
 field-returns-3 : (t : ℕ) → field-lts.Need-returns-3 (field-claims t) (field-at t) field.Post
 field-returns-3 t c =
-    let a = c .before .before .before .before .before .before .before .args in
-    let o = c .before .before .list-operands in (
+    let a = c .before .before .before .before .before .before .before .before .before .before .args in
+    let o = c .before .before .before .before .list-operands in (
       tt,
-      λ count i at E w e s few long.
-          operands-too-many (a .rows .now) count (a .k) i at E w (a .n) (a .list .now) s (o .last .1 .1 .1 .0) (c .enum-told .given .1)
-          (operands-listed (a .rows .now) count (a .k) i at E w (a .n) (a .list .now) (λ z. c .before .before .before .before .if1 .left (c .before .before .before .before .before .row-number .ensures .0 ∙ z)) e s few long (o .result) (o .last .1 .1 .1 .0) (o .ensures .1)),
+      λ count i at E w e s few.
+          operands-full (a .rows .now) count (a .k) i at E w (a .room) (a .n) (a .list .now) s (o .last .1 .1 .1 .0) (c .enum-told .given .1)
+          (operands-listed (a .rows .now) count (a .k) i at E w (a .room) (a .n) (a .list .now) (λ z. c .before .before .before .before .before .before .if1 .left (c .before .before .before .before .before .before .before .row-number .ensures .0 ∙ z)) e s few (o .result) (o .last .1 .1 .1 .0) (o .ensures .1)),
     )
 
 field-returns-4 : (t : ℕ) → field-lts.Need-returns-4 (field-claims t) (field-at t) field.Post
 field-returns-4 t c =
-    let a = c .before .before .before .before .before .before .before .before .before .before .before .args in
-    let o = c .before .before .before .before .before .before .list-operands in (
-      c .close .ensures .0,
-      λ count i at E w e s few long.
-          scope-listed (a .rows .now) count (a .k) i at E w (sym (c .before .before .before .before .before .before .before .before .before .row-number .ensures .0) ∙ c .before .before .if3 .taken) s few (a .n) (a .list .now) (omega (arith, c .before .before .before .before .before .before .before .before .before .before .before .pre .1 .2)) (o .last .1 .1 .1 .0) (c .before .before .before .before .end .given .1)
-          (operands-listed (a .rows .now) count (a .k) i at E w (a .n) (a .list .now) (λ z. c .before .before .before .before .before .before .before .before .if1 .left (c .before .before .before .before .before .before .before .before .before .row-number .ensures .0 ∙ z)) e s few long (o .result) (o .last .1 .1 .1 .0) (o .ensures .1))
-          (c .close .result) (c .close .last .1 .1 .0) (c .close .ensures .1),
+    let a = c .before .before .before .before .before .before .before .before .before .before .before .before .before .before .before .before .args in
+    let o = c .before .before .before .before .before .before .before .before .before .before .list-operands in (
+      c .before .before .close .ensures .0,
+      λ count i at E w e s few.
+          scope-listed (a .rows .now) count (a .k) i at E w (sym (c .before .before .before .before .before .before .before .before .before .before .before .before .before .row-number .ensures .0) ∙ c .before .before .before .before .if3 .taken) s few (a .room) (a .n) (a .list .now) (omega (arith, c .before .before .before .before .before .before .before .before .before .before .before .before .before .before .before .before .pre .1 .2)) (o .last .1 .1 .1 .0) (c .before .before .before .before .before .before .end .given .1)
+          (operands-listed (a .rows .now) count (a .k) i at E w (a .room) (a .n) (a .list .now) (λ z. c .before .before .before .before .before .before .before .before .before .before .before .before .if1 .left (c .before .before .before .before .before .before .before .before .before .before .before .before .before .row-number .ensures .0 ∙ z)) e s few (o .result) (o .last .1 .1 .1 .0) (o .ensures .1))
+          (c .before .before .close .result) (c .before .before .close .last .1 .1 .0) (c .before .before .close .ensures .1),
     )
 
 field-returns-5 : (t : ℕ) → field-lts.Need-returns-5 (field-claims t) (field-at t) field.Post
 field-returns-5 t c =
-    let a = c .before .before .before .before .before .before .before .before .before .args in
-    let o = c .before .before .before .before .list-operands in (
-      many-fit (c .before .before .end .given .1) (o .ensures .0),
-      λ count i at E w e s few long.
-          operator-listed (a .rows .now) count (a .k) i at E w (a .n) (a .list .now) s (o .last .1 .1 .1 .0) (c .before .before .end .given .1)
-          (operands-listed (a .rows .now) count (a .k) i at E w (a .n) (a .list .now) (λ z. c .before .before .before .before .before .before .if1 .left (c .before .before .before .before .before .before .before .row-number .ensures .0 ∙ z)) e s few long (o .result) (o .last .1 .1 .1 .0) (o .ensures .1))
-          (λ z. c .before .before .before .before .before .before .if1 .left (c .before .before .before .before .before .before .before .row-number .ensures .0 ∙ z)) (λ z. c .if3 .left (c .before .before .before .before .before .before .before .row-number .ensures .0 ∙ z)),
+    let a = c .before .before .before .before .before .before .before .before .before .before .before .before .args in
+    let o = c .before .before .before .before .before .before .list-operands in (
+      many-fit (c .before .before .end .given .1) (a .room) (o .ensures .0),
+      λ count i at E w e s few.
+          operator-listed (a .rows .now) count (a .k) i at E w (a .room) (a .n) (a .list .now) s (o .last .1 .1 .1 .0) (c .before .before .end .given .1)
+          (operands-listed (a .rows .now) count (a .k) i at E w (a .room) (a .n) (a .list .now) (λ z. c .before .before .before .before .before .before .before .before .if1 .left (c .before .before .before .before .before .before .before .before .before .row-number .ensures .0 ∙ z)) e s few (o .result) (o .last .1 .1 .1 .0) (o .ensures .1))
+          (λ z. c .before .before .before .before .before .before .before .before .if1 .left (c .before .before .before .before .before .before .before .before .before .row-number .ensures .0 ∙ z)) (λ z. c .if3 .left (c .before .before .before .before .before .before .before .before .before .row-number .ensures .0 ∙ z)),
     )
 
 -- the ways out of list_operands
 
 operands-returns : (t : ℕ) → operands-lts.Need-returns (operands-claims t) (operands-at t) operands.Post
 operands-returns t c =
-    let a = c .before .args in
-    (search needs, λ count i Es o named few long. none-listed (a .rows .now) count (a .k) (a .end) i Es (c .if1 .taken) o (a .n) (a .list .now))
+    let a = c .before .before .before .args in
+    (search needs, λ count i Es o named few. none-listed (a .rows .now) count (a .k) (a .end) i Es (c .if1 .taken) o (a .n) (a .list .now))
 
 operands-returns-2 : (t : ℕ) → operands-lts.Need-returns-2 (operands-claims t) (operands-at t) operands.Post
 operands-returns-2 t c =
-    let a = c .before .before .before .before .args in
-    (tt, λ count i Es o named few long. absurd (omega (arith, operand-inside (a .rows .now) count (a .k) (a .end) i Es (c .before .before .before .if1 .left) (c .before .row-number .ensures .0) o)))
+    let a = c .before .before .before .before .before .args in
+    (tt, λ count i Es o named few. absurd (omega (arith, operand-inside (a .rows .now) count (a .k) (a .end) i Es (c .before .before .if1 .left) (c .before .row-number .ensures .0) o)))
 
 operands-returns-3 : (t : ℕ) → operands-lts.Need-returns-3 (operands-claims t) (operands-at t) operands.Post
 operands-returns-3 t c =
-    let a = c .before .before .before .before .before .args in
-    (tt, λ count i Es o named few long. absurd (omega (arith, operand-inside (a .rows .now) count (a .k) (a .end) i Es (c .before .before .before .before .if1 .left) (c .before .before .row-number .ensures .0) o)))
+    let a = c .before .before .before .before .before .before .args in
+    (tt, λ count i Es o named few. absurd (omega (arith, operand-inside (a .rows .now) count (a .k) (a .end) i Es (c .before .before .before .if1 .left) (c .before .before .row-number .ensures .0) o)))
 
 operands-returns-4 : (t : ℕ) → operands-lts.Need-returns-4 (operands-claims t) (operands-at t) operands.Post
 operands-returns-4 t c =
-    let a = c .before .before .before .before .before .before .before .before .before .args in
-    let f = c .before .before .list-field in (
+    let a = c .before .before .before .before .before .before .before .before .before .before .before .before .args in
+    let f = c .before .before .before .before .list-field in (
       tt,
-      λ count i Es o named few long.
-          too-many-listed (a .rows .now) count (a .k) (a .end) (a .n) (a .list .now) (c .before .before .before .before .before .before .before .before .if1 .left) (c .before .before .before .before .before .before .row-number .ensures .0) (f .result) (f .last .1 .1 .1 .0) (f .ensures .1) (c .enum-told .given .1) i Es o named few long,
+      λ count i Es o named few.
+          full-listed (a .rows .now) count (a .k) (a .end) (a .room) (a .n) (a .list .now) (c .before .before .before .before .before .before .before .before .before .if1 .left) (c .before .before .before .before .before .before .before .before .row-number .ensures .0) (f .result) (f .last .1 .1 .1 .0) (f .ensures .1) (c .enum-told .given .1) i Es o named few,
     )
 
 operands-returns-5 : (t : ℕ) → operands-lts.Need-returns-5 (operands-claims t) (operands-at t) operands.Post
 operands-returns-5 t c =
-    let a = c .before .before .before .before .before .before .before .before .before .before .before .before .args in
-    let f = c .before .before .before .before .before .list-field in
-    let r = c .list-operands in (
+    let a = c .before .before .before .before .before .before .before .before .before .before .before .before .before .before .before .before .before .args in
+    let f = c .before .before .before .before .before .before .before .before .before .list-field in
+    let r = c .before .before .list-operands in (
       r .ensures .0,
-      λ count i Es o named few long.
-          all-listed (a .rows .now) count (a .k) (a .end) (a .n) (a .list .now) (c .before .before .before .before .before .before .before .before .before .before .before .if1 .left) (c .before .before .before .before .before .before .before .before .before .row-number .ensures .0) (f .result) (f .last .1 .1 .1 .0) (f .ensures .1) (c .before .before .before .so-far .given .1) (r .result)
-          (r .last .1 .1 .1 .0) (r .ensures .1) i Es o named few long,
+      λ count i Es o named few.
+          all-listed (a .rows .now) count (a .k) (a .end) (a .room) (a .n) (a .list .now) (c .before .before .before .before .before .before .before .before .before .before .before .before .before .before .if1 .left) (c .before .before .before .before .before .before .before .before .before .before .before .before .before .row-number .ensures .0) (f .result) (f .last .1 .1 .1 .0) (f .ensures .1) (c .before .before .before .before .before .so-far .given .1) (r .result)
+          (r .last .1 .1 .1 .0) (r .ensures .1) i Es o named few,
     )
 
 pub +list-field+list-operands-spec : {M : Type 1} → statement M
@@ -146,14 +146,18 @@ pub +list-field+list-operands-spec : {M : Type 1} → statement M
     (λ c κs. search needs)
     (λ c κs. search needs)
     (λ c. search needs)
+    (λ c. search needs)
     (field-returns-2 t)
     (λ c. search needs)
     (λ c κs. omega arith)
     (λ c. search needs)
     (λ c. search needs)
-    (λ c κs. omega (arith, many-fit (c .before .before .before .end .given .1) (c .before .before .before .before .before .list-operands .ensures .0)))
+    (λ c κs. omega (arith, many-fit (c .before .before .before .end .given .1) (c .before .before .before .before .before .before .before .before .before .before .before .before .before .args .room) (c .before .before .before .before .before .before .before .list-operands .ensures .0)))
+    (λ c. search needs)
     (field-returns-3 t)
+    (λ c. search needs)
     (field-returns-4 t)
+    (λ c. search needs)
     (field-returns-5 t))
     (λ t.
     operands-lts.spec (operands-claims t) (operands-at t) operands.Post
@@ -164,6 +168,8 @@ pub +list-field+list-operands-spec : {M : Type 1} → statement M
     (λ c κs. omega arith)
     (λ c. search needs)
     (λ c. search needs)
-    (λ c κs. omega (arith, many-fit (c .before .before .so-far .given .1) (c .before .before .before .before .list-field .ensures .0)))
+    (λ c κs. omega (arith, many-fit (c .before .before .so-far .given .1) (c .before .before .before .before .before .before .before .before .before .before .before .before .before .before .args .room) (c .before .before .before .before .before .before .list-field .ensures .0)))
+    (λ c. search needs)
     (operands-returns-4 t)
+    (λ c. search needs)
     (operands-returns-5 t))

@@ -33,12 +33,13 @@ pub +count-spec : {M : Type 1} → statement M
 )
     (count-at t)
     count.Post
-    (λ c. let s = c .before .before in
+    (λ c. let s = c .before .before .before in
     none-left (s .args .rows .now) (s .args .counts .now) (c .if1 .taken))
     (λ c. search needs)
     (λ c κs. search needs)
     (λ c κs. search needs)
     (λ c κs. search needs)
-    (λ c. let s = c .before .before .before .before .before .before .before .before .before in
-    turn (s .args .rows .now) (s .args .counts .now) (c .before .before .before .before .before .before .before .if1 .left) (search needs)
-    (c .before .before .before .before .counts-of .ensures .0) (c .before .before .store .ensures) (c .count .ensures))
+    (λ c. search needs)
+    (λ c. let s = c .before .before .before .before .before .before .before .before .before .before .before .before .before in
+    turn (s .args .rows .now) (s .args .counts .now) (c .before .before .before .before .before .before .before .before .before .before .if1 .left) (search needs)
+    (c .before .before .before .before .before .before .before .before .counts-of .ensures .0) (c .before .before .before .before .before .before .store .ensures) (c .before .before .count .ensures))

@@ -6,4 +6,4 @@ use Rattle.boxes.proofs.counts.count_places.Statement.{statement}
 use Rattle.boxes.proofs.counts.count_places.Tie as tie
 
 pub count-places-spec : {M : Type 1} → statement M
-count-places-spec = tie.close (tie.spec (λ c κs. search needs) (λ c. all-counted (c .count .ensures)))
+count-places-spec = tie.close (tie.spec (λ c κs. search needs) (λ c. search needs) (λ c. all-counted (c .before .before .count .ensures)))

@@ -3,7 +3,7 @@
 use native.Mathlib.Omega.{arith}
 use mathlib.Core.Path.{refl}
 use mathlib.Core.Logic.{inr}
-use Rattle.compile.proofs.Builds.{too-many, net-made}
+use Rattle.compile.proofs.Builds.{too-many, net-made, told-room}
 use borrow.Author.Needs.{needs}
 use Rattle.compile.proofs.building.make_net.Statement.{statement}
 use Rattle.compile.proofs.building.make_net.Tie as tie
@@ -22,8 +22,8 @@ same-length-2 c = search needs
 
 returns : tie.Need-returns
 returns c =
-    let s = c .before .before .before .before .before .before .before .before .before .before .before .before .before .before in
-    λ E w. net-made E w (c .before .before .before .before .before .before .put-transitions .ensures E (w .of)) (omega (arith, c .before .before .before .arcs .given)) (s .pre .2) refl (s .pre .3) (c .told .result) (c .told .ensures)
+    let s = c .before .before .before .before .before .before .before .before .before .before .before .before .before .before .before .before .before in
+    ((λ E w. net-made E w (c .before .before .before .before .before .before .put-transitions .ensures E (w .of)) (omega (arith, c .before .before .before .arcs .given)) (s .pre .2) refl (s .pre .3) (c .told .result) (c .told .ensures)), told-room _ _ _ (c .told .result) (c .told .ensures) _ _ _)
 
 same-length-3 : tie.Need-same-length-3
 same-length-3 c = search needs
@@ -32,7 +32,7 @@ same-length-4 : tie.Need-same-length-4
 same-length-4 c = search needs
 
 returns-2 : tie.Need-returns-2
-returns-2 c = λ E w. inr (omega arith)
+returns-2 c = ((λ E w. tt), inr (inr (omega (arith, c .before .before .before .arcs .given))))
 
 same-length-5 : tie.Need-same-length-5
 same-length-5 c = search needs
@@ -41,7 +41,7 @@ same-length-6 : tie.Need-same-length-6
 same-length-6 c = search needs
 
 returns-3 : tie.Need-returns-3
-returns-3 c = λ E w. too-many E w (c .before .before .before .before .before .before .put-transitions .ensures E (w .of)) (omega (arith, c .before .before .before .arcs .given)) (omega (arith, c .before .before .before .arcs .given))
+returns-3 c = ((λ E w. too-many E w (c .before .before .before .before .before .before .put-transitions .ensures E (w .of)) (omega (arith, c .before .before .before .arcs .given)) (omega (arith, c .before .before .before .arcs .given))), tt)
 
 pub make-net-spec : {M : Type 1} → statement M
 make-net-spec =

@@ -25,17 +25,17 @@ number-at-requires-3 c κs = search needs
 wide-requires-3 : tie.Need-wide-requires-3
 wide-requires-3 c κs = search needs
 
-add-t14 : tie.Need-add-t14
-add-t14 c = search needs
+add-t8 : tie.Need-add-t8
+add-t8 c = search needs
 
-add-t15 : tie.Need-add-t15
-add-t15 c = search needs
+add-t9 : tie.Need-add-t9
+add-t9 c = search needs
 
 returns : tie.Need-returns
 returns c =
-    let n = c .before .before .before .before .before .before .before .before .before .args in
-    let a = c .before .before .before .before .before .before .wide .ensures .0 ∙ c .before .before .before .before .before .before .before .number-at .ensures in
-    let b = c .before .before .before .wide2 .ensures .0 ∙ c .before .before .before .before .number-at2 .ensures in
+    let n = c .before .before .before .before .before .before .before .args in
+    let a = c .before .before .before .before .wide .ensures .0 ∙ c .before .before .before .before .before .number-at .ensures in
+    let b = c .before .before .wide2 .ensures .0 ∙ c .before .before .before .number-at2 .ensures in
     let d = c .wide3 .ensures .0 ∙ c .before .number-at3 .ensures in
     λ k. counts (a k + (b k + d k)) (n .transitions) (n .arcs) (a k) (b k)
 
@@ -49,6 +49,6 @@ told-spec =
     wide-requires-2
     number-at-requires-3
     wide-requires-3
-    add-t14
-    add-t15
+    add-t8
+    add-t9
     returns)

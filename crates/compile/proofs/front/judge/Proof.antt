@@ -7,24 +7,6 @@ use borrow.Author.Needs.{needs}
 use Rattle.compile.proofs.front.judge.Statement.{statement}
 use Rattle.compile.proofs.front.judge.Tie as tie
 
-check-loops-requires : tie.Need-check-loops-requires
-check-loops-requires c κs = search needs
-
-enum-known-at : tie.Need-enum-known-at
-enum-known-at c = search needs
-
-enum-told : tie.Need-enum-told
-enum-told c = search needs
-
-count-places-requires : tie.Need-count-places-requires
-count-places-requires c κs = search needs
-
-places-fit-requires : tie.Need-places-fit-requires
-places-fit-requires c κs = search needs
-
-list-few-requires : tie.Need-list-few-requires
-list-few-requires c κs = search needs
-
 returns : tie.Need-returns
 returns c =
     let o = c .before .before .before .check-loops in
@@ -32,32 +14,36 @@ returns c =
 
 returns-2 : tie.Need-returns-2
 returns-2 c =
-    let a = c .before .before .before .before .before .before .before .before .before .before .before .args in
-    let o = c .before .before .before .before .before .before .before .before .before .before .check-loops in
-    let n = c .before .before .before .before .before .before .count-places in
+    let a = c .before .before .before .before .before .before .before .before .before .before .before .before .before .before .before .before .before .args in
+    let o = c .before .before .before .before .before .before .before .before .before .before .before .before .before .check-loops in
+    let n = c .before .before .before .before .before .before .before .before .before .count-places in
+    let l = c .before .before .list-few in
     λ E t few named.
-    all-fine E (a .nodes) _ _ _ _ (sym (ap loops-say (c .before .before .before .before .before .before .before .before .enum-told .given .1)) ∙ o .ensures E t) (t .nodes) (n .ensures E t)
-    (sym (c .before .before .before .places-fit .ensures) ∙ c .before .before .if1 .taken) _ (c .list-few .ensures E t few named)
+    all-fine E (a .nodes) _ _ _ _ (sym (ap loops-say (c .before .before .before .before .before .before .before .before .before .before .before .enum-told .given .1)) ∙ o .ensures E t) (t .nodes) (n .ensures E t)
+    (sym (c .before .before .before .before .before .places-fit .ensures) ∙ c .before .before .before .before .if1 .taken) (l .result) (l .ensures E t few named)
 
 returns-3 : tie.Need-returns-3
 returns-3 c =
-    let a = c .before .before .before .before .before .before .before .before .before .args in
-    let o = c .before .before .before .before .before .before .before .before .check-loops in
-    let n = c .before .before .before .before .count-places in
+    let a = c .before .before .before .before .before .before .before .before .before .before .before .before .before .args in
+    let o = c .before .before .before .before .before .before .before .before .before .check-loops in
+    let n = c .before .before .before .before .before .count-places in
     λ E t few named.
-    places-stop E (a .nodes) _ _ _ _ (sym (ap loops-say (c .before .before .before .before .before .before .enum-told .given .1)) ∙ o .ensures E t) (t .nodes) (n .ensures E t)
+    places-stop E (a .nodes) _ _ _ _ (sym (ap loops-say (c .before .before .before .before .before .before .before .enum-told .given .1)) ∙ o .ensures E t) (t .nodes) (n .ensures E t)
     (sym (c .before .places-fit .ensures) ∙ c .if1 .left)
 
 pub judge-spec : {M : Type 1} → statement M
 judge-spec =
     tie.close
     (tie.spec
-    check-loops-requires
-    enum-known-at
-    enum-told
-    count-places-requires
-    places-fit-requires
-    list-few-requires
+    (λ c κs. search needs)
+    (λ c. search needs)
+    (λ c. search needs)
+    (λ c κs. search needs)
+    (λ c κs. search needs)
+    (λ c κs. search needs)
     returns
+    (λ c. search needs)
+    (λ c. search needs)
     returns-2
+    (λ c. search needs)
     returns-3)

@@ -13,14 +13,14 @@ arcs-of-item-requires c κs = search needs
 
 add-end : tie.Need-add-end
 add-end c =
-    let s = c .before .before .before .before .before in
+    let s = c .before .before .before .before .before .before .before in
     let a = s .args in
     let f = side-few (a .table .now) (a .nodes) (a .counts .now) (item-of (a .first) (a .second)) (a .side) _ (c .arcs-of-item .result) (c .arcs-of-item .ensures) (s .pre .0) in
     record { fits = omega arith }
 
 put-requires : tie.Need-put-requires
 put-requires c κs =
-    let s = c .before .before .before .before .before .before .before .before .before in
+    let s = c .before .before .before .before .before .before .before .before .before .before .before in
     let a = s .args in
     let o = c .before .before .before .before .arcs-of-item in
     let f = side-few (a .table .now) (a .nodes) (a .counts .now) (item-of (a .first) (a .second)) (a .side) _ (o .result) (o .ensures) (s .pre .0) in
@@ -31,13 +31,13 @@ same-length c = search needs
 
 returns : tie.Need-returns
 returns c =
-    let a = c .before .before .before .before .before .before .before .before .before .before .before .before .args in
+    let a = c .before .before .before .before .before .before .before .before .before .before .before .before .before .before .args in
     let o = c .before .before .before .before .before .before .before .arcs-of-item in
     side-put (a .table .now) (a .nodes) (a .counts .now) (item-of (a .first) (a .second)) (a .side) _ (o .result) (o .ensures) refl (λ _. c .before .before .put .ensures)
 
 returns-2 : tie.Need-returns-2
 returns-2 c =
-    let a = c .before .before .before .before .before .before .args in
+    let a = c .before .before .before .before .before .before .before .before .args in
     let o = c .before .arcs-of-item in
     side-put (a .table .now) (a .nodes) (a .counts .now) (item-of (a .first) (a .second)) (a .side) _ (o .result) (o .ensures) refl (λ h. absurd (omega arith))
 

@@ -22,9 +22,9 @@ abbrev Within : Type 0
 Within = lts.After-put-row-arg (wide-reads.Asked, wide-reads.Learnt, put-arcs-reads.Asked, put-arcs-reads.Learnt, put-row-reads.Asked, put-row-reads.Learnt) reads.Pre reads.Post
 
 -- the arcs start, turn from inputs to outputs, and end, in this order
-turn : (c : Within) → (c .before .before .before .before .before .before .before .before .before .before .before .before .before .before .before .before .args .at ≤ c .before .before .before .before .put-arcs .result .middle) × (c .before .before .before .before .put-arcs .result .middle ≤ c .before .before .before .before .put-arcs .result .end)
+turn : (c : Within) → (c .before .before .before .before .before .before .before .before .before .before .before .before .before .before .before .before .before .before .before .args .at ≤ c .before .before .before .before .put-arcs .result .middle) × (c .before .before .before .before .put-arcs .result .middle ≤ c .before .before .before .before .put-arcs .result .end)
 turn c =
-    let s = c .before .before .before .before .before .before .before .before .before .before .before .before .before .before .before .before in
+    let s = c .before .before .before .before .before .before .before .before .before .before .before .before .before .before .before .before .before .before .before in
     let a = s .args in
     let e = ap₂ item-of (c .before .before .before .before .before .before .before .before .before .before .wide .ensures .0) (c .before .before .before .before .before .before .before .before .before .wide2 .ensures .0) in
     arcs-in-turn (a .table .now) (a .nodes) (a .counts .now) (c .before .before .before .before .put-arcs .ensures) e (s .pre .0) (omega arith)
@@ -35,8 +35,8 @@ mul-label c = search needs
 mul-label-2 : tie.Need-mul-label-2
 mul-label-2 c = search needs
 
-element-copy-out-label : tie.Need-element-copy-out-label
-element-copy-out-label c = search needs
+shared-slice-read-label : tie.Need-shared-slice-read-label
+shared-slice-read-label c = search needs
 
 mul-first : tie.Need-mul-first
 mul-first c = search needs
@@ -47,8 +47,8 @@ add-first c = search needs
 mul-first-2 : tie.Need-mul-first-2
 mul-first-2 c = search needs
 
-element-copy-out-first : tie.Need-element-copy-out-first
-element-copy-out-first c = search needs
+shared-slice-read-first : tie.Need-shared-slice-read-first
+shared-slice-read-first c = search needs
 
 mul-second : tie.Need-mul-second
 mul-second c = search needs
@@ -59,8 +59,8 @@ add-second c = search needs
 mul-second-2 : tie.Need-mul-second-2
 mul-second-2 c = search needs
 
-element-copy-out-second : tie.Need-element-copy-out-second
-element-copy-out-second c = search needs
+shared-slice-read-second : tie.Need-shared-slice-read-second
+shared-slice-read-second c = search needs
 
 wide-requires : tie.Need-wide-requires
 wide-requires c κs = search needs
@@ -70,10 +70,10 @@ wide-requires-2 c κs = search needs
 
 put-arcs-requires : tie.Need-put-arcs-requires
 put-arcs-requires c κs =
-    let s = c .before .before .before .before .before .before .before .before .before .before .before in
+    let s = c .before .before .before .before .before .before .before .before .before .before .before .before .before .before in
     let a = s .args in
     let e = ap₂ item-of (c .before .before .before .before .before .wide .ensures .0) (c .before .before .before .before .wide2 .ensures .0) in
-    (subst (Asked (a .table .now) (a .nodes) (a .counts .now)) (sym e) (s .pre .0), s .pre .3, s .pre .4)
+    (subst (Asked (a .table .now) (a .nodes) (a .counts .now)) (sym e) (s .pre .0), s .pre .4, s .pre .5, s .pre .6)
 
 cast-put-row : tie.Need-cast-put-row
 cast-put-row c = search needs
@@ -101,7 +101,7 @@ same-length-2 c = search needs
 
 returns : tie.Need-returns
 returns c =
-    let a = c .before .before .before .before .before .before .before .before .before .before .before .before .before .before .before .before .before .before .before .args in
+    let a = c .before .before .before .before .before .before .before .before .before .before .before .before .before .before .before .before .before .before .before .before .before .before .args in
     let e = ap₂ item-of (c .before .before .before .before .before .before .before .before .before .before .before .before .before .wide .ensures .0) (c .before .before .before .before .before .before .before .before .before .before .before .before .wide2 .ensures .0) in
     λ E o. transition-put _ (a .list .now) (a .t) (a .at) _ _ E (arcs-of-listed (a .table .now) (a .nodes) (a .counts .now) (c .before .before .before .before .before .before .before .put-arcs .ensures) e E o) (omega arith) refl refl (c .before .before .put-row .ensures)
 
@@ -110,7 +110,7 @@ same-length-3 c = search needs
 
 returns-2 : tie.Need-returns-2
 returns-2 c =
-    let a = c .before .before .before .before .before .before .before .before .before .before .before .before .before .before .before .args in
+    let a = c .before .before .before .before .before .before .before .before .before .before .before .before .before .before .before .before .before .before .args in
     let e = ap₂ item-of (c .before .before .before .before .before .before .before .before .before .wide .ensures .0) (c .before .before .before .before .before .before .before .before .wide2 .ensures .0) in
     λ E o. transition-over _ (a .list .now) (a .t) (a .at) _ _ E (arcs-of-listed (a .table .now) (a .nodes) (a .counts .now) (c .before .before .before .put-arcs .ensures) e E o) (omega arith)
 
@@ -120,15 +120,15 @@ put-transition-spec =
     (tie.spec
     mul-label
     mul-label-2
-    element-copy-out-label
+    shared-slice-read-label
     mul-first
     add-first
     mul-first-2
-    element-copy-out-first
+    shared-slice-read-first
     mul-second
     add-second
     mul-second-2
-    element-copy-out-second
+    shared-slice-read-second
     wide-requires
     wide-requires-2
     put-arcs-requires

@@ -17,15 +17,15 @@ abbrev μ-loop : tie.MeasureT-loop
 
 loop-holds : tie.Need-loop-holds Inv-loop μ-loop
 loop-holds c =
-    let a = c .before .before .args in
+    let a = c .before .before .before .before .before .args in
     (none-turned (a .table .now) (a .nodes) (a .counts .now) (a .list .now) (a .many) (length (a .arcs .now)) (a .rows .now) (a .arcs .now), omega arith, omega arith, refl, refl)
 
 put-transition-requires : tie.Need-put-transition-requires Inv-loop μ-loop
 put-transition-requires c κs =
     let l = c .before .before .before .before .before .before .loop in
-    let s = c .before .before .before .before .before .before .before .before .before in
+    let s = c .before .before .before .before .before .before .before .before .before .before .before .before in
     let a = s .args in
-    (asked-one (a .table .now) (a .nodes) (a .counts .now) (a .list .now) (a .many) (l .t) (omega arith) (s .pre .0), omega arith, omega arith, omega arith, omega arith)
+    (asked-one (a .table .now) (a .nodes) (a .counts .now) (a .list .now) (a .many) (l .t) (omega arith) (s .pre .0), omega arith, omega arith, omega arith, omega arith, omega arith, omega arith)
 
 same-length : tie.Need-same-length Inv-loop μ-loop
 same-length c = c .before .before .before .before .rows .given ∙ c .before .before .before .before .before .before .before .before .before .before .before .before .loop .inv .3
@@ -36,7 +36,7 @@ same-length-2 c = c .before .before .arcs .given ∙ c .before .before .before .
 returns : tie.Need-returns Inv-loop μ-loop
 returns c =
     let l = c .before .before .before .before .before .before .before .before .before .before .before .before .loop in
-    let a = c .before .before .before .before .before .before .before .before .before .before .before .before .before .before .before .args in
+    let a = c .before .before .before .before .before .before .before .before .before .before .before .before .before .before .before .before .before .before .args in
     turn-over (a .table .now) (a .nodes) (a .counts .now) (a .list .now) (a .many) _ (l .t) (l .at) _ _ _ _ (l .inv .0) (omega arith) (l .inv .4) (c .before .before .before .before .before .put-transition .ensures) (omega arith)
 
 add-t : tie.Need-add-t Inv-loop μ-loop
@@ -48,7 +48,7 @@ loop-less c = omega arith
 loop-again : tie.Need-loop-again Inv-loop μ-loop
 loop-again c =
     let l = c .before .before .before .before .before .before .before .before .before .before .before .before .loop in
-    let a = c .before .before .before .before .before .before .before .before .before .before .before .before .before .before .before .args in (
+    let a = c .before .before .before .before .before .before .before .before .before .before .before .before .before .before .before .before .before .before .args in (
       turn (a .table .now) (a .nodes) (a .counts .now) (a .list .now) (a .many) _ (l .t) (l .at) _ _ _ _ (l .inv .0) (omega arith) (l .inv .4) (c .before .before .before .before .before .put-transition .ensures) (omega arith),
       omega arith,
       omega arith,
@@ -65,7 +65,7 @@ same-length-4 c = c .before .loop .inv .4
 returns-2 : tie.Need-returns-2 Inv-loop μ-loop
 returns-2 c =
     let l = c .before .loop in
-    let a = c .before .before .before .before .args in
+    let a = c .before .before .before .before .before .before .before .args in
     all-turned (a .table .now) (a .nodes) (a .counts .now) (a .list .now) (a .many) _ (l .t) (l .at) _ _ _ _ (l .inv .0) (omega arith) (omega arith)
 
 pub put-transitions-spec : {M : Type 1} → statement M

@@ -27,19 +27,19 @@ walk-claims t = (operand-of-reads.Asked, operand-of-reads.Learnt, walk-below t, 
 
 returns : (t : ℕ) → walk-lts.Need-returns (walk-claims t) (walk-at t) walk.Post
 returns t c =
-    let a = c .before .before .args in
+    let a = c .before .before .before .args in
     λ count n at E w. part-nowhere (a .rows .now) count (a .k) n at (a .i) (a .j) E w (c .before .operand-of .ensures .0) (c .if1 .taken)
 
 returns-2 : (t : ℕ) → walk-lts.Need-returns-2 (walk-claims t) (walk-at t) walk.Post
 returns-2 t c =
-    let a = c .before .before .before .before .before .args in
+    let a = c .before .before .before .before .before .before .args in
     λ count n at E w. part-inside (a .rows .now) count (a .k) n at (a .i) (a .j) E w (c .before .before .before .before .operand-of .ensures .0) (c .before .before .before .if1 .left) (c .before .before .operand-of2 .ensures .0) (c .before .if2 .taken) (c .part-at-parallel .result)
     (c .part-at-parallel .ensures)
 
 returns-3 : (t : ℕ) → walk-lts.Need-returns-3 (walk-claims t) (walk-at t) walk.Post
 returns-3 t c =
     let a = c .before .before .before .before .before .before .args in
-    λ count n at E w. part-here (a .rows .now) count (a .k) n at (a .i) (a .j) E w (c .before .before .before .before .before .operand-of .ensures .0) (c .before .before .before .operand-of2 .ensures .0) (c .before .before .if2 .left) (c .row-number .ensures .0)
+    λ count n at E w. part-here (a .rows .now) count (a .k) n at (a .i) (a .j) E w (c .before .before .before .before .operand-of .ensures .0) (c .before .before .operand-of2 .ensures .0) (c .before .if2 .left) (c .row-number .ensures .0)
 
 pub +part-at-parallel-spec : {M : Type 1} → statement M
 +part-at-parallel-spec =

@@ -20,27 +20,27 @@ abbrev μ-loop : tie.MeasureT-loop
 μ-loop list start end label found₀ count₀ t₀ found count t = end - t
 
 loop-holds : tie.Need-loop-holds Inv-loop μ-loop
-loop-holds c = (search needs, search needs, λ ts p few. let a = c .args in none-gathered (a .list .now) (a .found .now) (a .start) (a .end) (a .label) ts p)
+loop-holds c = (search needs, search needs, λ ts p few. let a = c .before .args in none-gathered (a .list .now) (a .found .now) (a .start) (a .end) (a .label) ts p)
 
 loop-again : tie.Need-loop-again Inv-loop μ-loop
 loop-again c =
-    let a = c .before .before .before .before .before .before .before .before .before .before .args in
-    let l = c .before .before .before .before .before .before .before .before .before .loop in (
+    let a = c .before .before .before .before .before .before .before .before .before .args in
+    let l = c .before .before .before .before .before .before .before .loop in (
       search needs,
       search needs,
       λ ts p few.
-          one-gathered (a .list .now) (l .found) (l .t) (a .end) (a .label) (l .count) (c .before .before .before .before .before .before .before .before .loop-test .taken) (omega (arith, c .before .before .before .put-number-arg .given)) few
-          (sym (c .before .before .before .before .before .before .number-at .ensures) ∙ sym (c .before .before .before .before .before .wide .ensures .0) ∙ c .before .before .before .before .if1 .taken) (c .before .number-at2 .ensures) (c .put-number .ensures) (l .inv .2 ts p few),
+          one-gathered (a .list .now) (l .found) (l .t) (a .end) (a .label) (l .count) (c .before .before .before .before .before .before .loop-test .taken) (omega (arith, c .before .before .put-number-arg .given)) few
+          (sym (c .before .before .before .before .before .number-at .ensures) ∙ sym (c .before .before .before .before .wide .ensures .0) ∙ c .before .before .before .if1 .taken) (c .before .number-at2 .ensures) (c .put-number .ensures) (l .inv .2 ts p few),
     )
 
 loop-again-2 : tie.Need-loop-again-2 Inv-loop μ-loop
 loop-again-2 c =
     let a = c .before .before .before .before .before .before .args in
-    let l = c .before .before .before .before .before .loop in (
+    let l = c .before .before .before .before .loop in (
       search needs,
       search needs,
       λ ts p few.
-          none-more-gathered (a .list .now) (l .found) (l .t) (a .end) (a .label) (l .count) (c .before .before .before .before .loop-test .taken) (λ z. c .if1 .left (c .before .wide .ensures .0 ∙ c .before .before .number-at .ensures ∙ z)) (l .inv .2 ts p few),
+          none-more-gathered (a .list .now) (l .found) (l .t) (a .end) (a .label) (l .count) (c .before .before .before .loop-test .taken) (λ z. c .if1 .left (c .before .wide .ensures .0 ∙ c .before .before .number-at .ensures ∙ z)) (l .inv .2 ts p few),
     )
 
 returns : tie.Need-returns Inv-loop μ-loop

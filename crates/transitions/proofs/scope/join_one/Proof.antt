@@ -1,7 +1,9 @@
 -- `join_one` meets its contract. The loop's invariant: what is held and what is to come are all pairs of the action.
 -- The measure is what is left of the others. Assumes nothing.
 use Prim.Native.Nat.{ℕ, _≤_, _-_}
+use mathlib.Core.Path.{_≡_}
 use mathlib.Core.List.{List}
+use lib.ListN.{length}
 use borrow.Author.Needs.{needs}
 use Rattle.algebra.specs.Expr.{Expr}
 use Rattle.algebra.specs.Transitions.{part-at-parallel}
@@ -13,51 +15,54 @@ use Rattle.transitions.proofs.scope.join_one.Statement.{statement}
 use Rattle.transitions.proofs.scope.join_one.Tie as tie
 
 abbrev Inv-loop : tie.InvT-loop
-Inv-loop rows k i others count list₀ n so-far₀ u₀ list so-far u =
-    (so-far ≤ 1280)
+Inv-loop rows k i others count list₀ room n so-far₀ u₀ list so-far u =
+    (so-far ≤ room)
+    × (length list ≡ length list₀)
     × ((nodes f at : ℕ) (E : Expr) (js : List ℕ) → Node rows nodes k f at E → Found count others js → Joining (part-at-parallel f E) list₀ n i js list so-far u)
 
 abbrev μ-loop : tie.MeasureT-loop
-μ-loop rows k i others count list₀ n so-far₀ u₀ list so-far u = count - u
+μ-loop rows k i others count list₀ room n so-far₀ u₀ list so-far u = count - u
 
 loop-holds : tie.Need-loop-holds Inv-loop μ-loop
-loop-holds c = (search needs, λ nodes f at E js w v. nothing-yet (c .args .list .now) (c .args .n) (pairs-with (part-at-parallel f E) (c .args .i) js))
+loop-holds c = (search needs, search needs, λ nodes f at E js w v. nothing-yet (c .before .before .args .list .now) (c .before .before .args .n) (pairs-with (part-at-parallel f E) (c .before .before .args .i) js))
 
 returns : tie.Need-returns Inv-loop μ-loop
 returns c =
-    let a = c .before .before .before .before .before .before .before .before .before .args in
+    let a = c .before .before .before .before .before .before .before .before .before .before .before .args in
     let l = c .before .before .before .before .before .before .before .before .loop in (
       tt,
       λ nodes f at E js w v.
           no-room (part-at-parallel f E) (a .list .now) (l .list) (a .others .now) js (a .n) (l .so-far) (l .u) (a .count) (a .i) v (c .before .before .before .before .before .before .before .loop-test .taken) (c .before .before .before .before .before .number-at .ensures)
-          (told (part-at-parallel f E) (c .before .before .part-at-parallel .ensures nodes f at E w) (c .before .before .before .before .wide .ensures .0) (c .before .before .before .wide2 .ensures .0) (c .before .if1 .taken)) (c .if2 .taken) (l .inv .1 nodes f at E js w v),
+          (told (part-at-parallel f E) (c .before .before .part-at-parallel .ensures nodes f at E w) (c .before .before .before .before .wide .ensures .0) (c .before .before .before .wide2 .ensures .0) (c .before .if1 .taken)) (c .if2 .taken) (l .inv .2 nodes f at E js w v),
     )
 
 loop-again : tie.Need-loop-again Inv-loop μ-loop
 loop-again c =
-    let a = c .before .before .before .before .before .before .before .before .before .before .before .args in
-    let l = c .before .before .before .before .before .before .before .before .before .before .loop in (
+    let a = c .before .before .before .before .before .before .before .before .before .before .before .before .before .before .before .args in
+    let l = c .before .before .before .before .before .before .before .before .before .before .before .before .loop in (
+      search needs,
       search needs,
       λ nodes f at E js w v.
-          one-joined (part-at-parallel f E) (a .list .now) (l .list) (a .others .now) js (a .n) (l .so-far) (l .u) (a .count) (a .i) v (c .before .before .before .before .before .before .before .before .before .loop-test .taken) (c .before .before .before .before .before .before .before .number-at .ensures)
-          (told (part-at-parallel f E) (c .before .before .before .before .part-at-parallel .ensures nodes f at E w) (c .before .before .before .before .before .before .wide .ensures .0) (c .before .before .before .before .before .wide2 .ensures .0) (c .before .before .before .if1 .taken)) (c .put .ensures) (l .inv .1 nodes f at E js w v),
+          one-joined (part-at-parallel f E) (a .list .now) (l .list) (a .others .now) js (a .n) (l .so-far) (l .u) (a .count) (a .i) v (c .before .before .before .before .before .before .before .before .before .before .before .loop-test .taken) (c .before .before .before .before .before .before .before .before .before .number-at .ensures)
+          (told (part-at-parallel f E) (c .before .before .before .before .before .before .part-at-parallel .ensures nodes f at E w) (c .before .before .before .before .before .before .before .before .wide .ensures .0) (c .before .before .before .before .before .before .before .wide2 .ensures .0) (c .before .before .before .before .before .if1 .taken)) (c .before .before .put .ensures) (l .inv .2 nodes f at E js w v),
     )
 
 loop-again-2 : tie.Need-loop-again-2 Inv-loop μ-loop
 loop-again-2 c =
-    let a = c .before .before .before .before .before .before .before .before .args in
+    let a = c .before .before .before .before .before .before .before .before .before .before .args in
     let l = c .before .before .before .before .before .before .before .loop in (
+      search needs,
       search needs,
       λ nodes f at E js w v.
           none-joined (part-at-parallel f E) (a .list .now) (l .list) (a .others .now) js (a .n) (l .so-far) (l .u) (a .count) (a .i) v (c .before .before .before .before .before .before .loop-test .taken) (c .before .before .before .before .number-at .ensures)
-          (told (part-at-parallel f E) (c .before .part-at-parallel .ensures nodes f at E w) (c .before .before .before .wide .ensures .0) (c .before .before .wide2 .ensures .0) (c .if1 .left)) (l .inv .1 nodes f at E js w v),
+          (told (part-at-parallel f E) (c .before .part-at-parallel .ensures nodes f at E w) (c .before .before .before .wide .ensures .0) (c .before .before .wide2 .ensures .0) (c .if1 .left)) (l .inv .2 nodes f at E js w v),
     )
 
 returns-2 : tie.Need-returns-2 Inv-loop μ-loop
 returns-2 c =
-    let a = c .before .before .args in
+    let a = c .before .before .before .before .args in
     let l = c .before .loop in
-    (search needs, λ nodes f at E js w v. all-joined (part-at-parallel f E) (a .list .now) (l .list) (a .others .now) js (a .n) (l .so-far) (l .u) (a .count) (a .i) v (c .loop-test .left) (l .inv .1 nodes f at E js w v))
+    (search needs, λ nodes f at E js w v. all-joined (part-at-parallel f E) (a .list .now) (l .list) (a .others .now) js (a .n) (l .so-far) (l .u) (a .count) (a .i) v (c .loop-test .left) (l .inv .2 nodes f at E js w v))
 
 pub join-one-spec : {M : Type 1} → statement M
 join-one-spec =
@@ -70,6 +75,7 @@ join-one-spec =
     (λ c κs. search needs)
     (λ c κs. search needs)
     (λ c κs. search needs)
+    (λ c. search needs)
     returns
     (λ c κs. search needs)
     (λ c. search needs)
@@ -79,4 +85,5 @@ join-one-spec =
     (λ c. search needs)
     (λ c. search needs)
     loop-again-2
+    (λ c. search needs)
     returns-2)
