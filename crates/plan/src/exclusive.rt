@@ -9,11 +9,14 @@ use crate::tags::SCOPE;
 use crate::tags::TAG;
 ghost use mathlib.Core.Path.{_≡_};
 ghost use Prim.Native.Nat.{_+_, _*_, _≤_};
-ghost use lib.ListN.{getD, replicate};
+ghost use lib.ListN.{length, getD};
 ghost use Rattle.algebra.specs.Expr.{Expr};
 ghost use Rattle.plan.specs.Loops.{no-fault, check-loops};
 ghost use Rattle.plan.specs.Table.{Table};
 ghost use Rattle.plan.specs.Judged.{loops-say, first-refusal, exclusive-by, fault-by, Judged};
+
+// So many nodes are few.
+const FEW_NODES: usize = 64;
 
 // Every loop's body is exclusive, or the offset of the first loop whose body is not.
 pub enum Loops {
@@ -89,8 +92,8 @@ fn first_of(a: Loops, b: Loops) -> Loops
 }
 
 // Judges the nodes below k, where those from k on are judged and their loops told.
-fn judge(rows: &[u16], k: usize, exclusive: &mut [u16; 1366], later: Loops) -> Loops
-    requires { ⌜ k ≤ 1366 ⌝ }
+fn judge(rows: &[u16], k: usize, exclusive: &mut [u16], later: Loops) -> Loops
+    requires { ⌜ (k ≤ 1366) × (k ≤ length (now exclusive)) ⌝ }
     ensures { λ r. ⌜ Judged (now (rows .entry)) k (now (exclusive .entry)) (now (exclusive .exit)) (loops-say later) (loops-say r) ⌝ }
 {
     if k == 0 {
@@ -103,10 +106,13 @@ fn judge(rows: &[u16], k: usize, exclusive: &mut [u16; 1366], later: Loops) -> L
     judge(rows, node, exclusive, found)
 }
 
-fn none_judged() -> [u16; 1366]
-    ensures { λ r. ⌜ r ≡ replicate 1366 0 ⌝ }
+// The same for a plan of few nodes, with room that costs little to make.
+fn check_few(rows: &[u16], nodes: usize) -> Loops
+    requires { ⌜ nodes ≤ 64 ⌝ }
+    ensures { λ r. ⌜ ((E : Expr) → Table (now (rows .entry)) nodes E → loops-say r ≡ check-loops E) ⌝ }
 {
-    [0u16; 1366]
+    let mut exclusive = [0u16; FEW_NODES];
+    judge(rows, nodes, &mut exclusive, Loops::Fine)
 }
 
 // The check for loops of the plan whose node table the rows begin with.
@@ -114,6 +120,9 @@ pub fn check_loops(rows: &[u16], nodes: usize) -> Loops
     requires { ⌜ nodes ≤ 1366 ⌝ }
     ensures { λ r. ⌜ ((E : Expr) → Table (now (rows .entry)) nodes E → loops-say r ≡ check-loops E) ⌝ }
 {
-    let mut exclusive = none_judged();
+    if nodes <= FEW_NODES {
+        return check_few(rows, nodes);
+    }
+    let mut exclusive = [0u16; 1366];
     judge(rows, nodes, &mut exclusive, Loops::Fine)
 }

@@ -3,7 +3,10 @@
 use borrow.Author.Needs.{needs}
 use Rattle.plan.specs.Judged.{loops-say}
 use Rattle.plan.proofs.Judges.{none-left, turn}
-use Prim.Native.Nat.{ℕ, _<_}
+use Prim.Native.Nat.{ℕ, _-_, _<_}
+use native.Mathlib.Omega.{arith}
+use mathlib.Core.Path.{_∙_}
+use lib.ListN.{length-set}
 use borrow.Fn.Kinds.{In}
 use borrow.Fn.PlainCycle.{Measures, is, falls, and}
 use Rattle.plan.proofs.exclusive.judge.Reads as judge
@@ -37,7 +40,7 @@ pub +judge-spec : {M : Type 1} → statement M
 )
     (judge-at t)
     judge.Post
-    (λ c. let s = c .before .before in
+    (λ c. let s = c .before .before .before in
     none-left (s .args .rows .now) (s .args .exclusive .now) (loops-say (s .args .later)) (c .if1 .taken))
     (λ c. search needs)
     (λ c κs. search needs)
@@ -45,7 +48,11 @@ pub +judge-spec : {M : Type 1} → statement M
     (λ c. search needs)
     (λ c κs. search needs)
     (λ c κs. search needs)
-    (λ c κs. search needs)
-    (λ c. let s = c .before .before .before .before .before .before .before .before .before .before .before in
-    turn (s .args .rows .now) (s .args .exclusive .now) _ (c .before .before .before .before .before .before .before .before .before .if1 .left) (search needs)
-    (c .before .before .before .before .before .before .is-exclusive .ensures) (c .before .before .before .fault-of .ensures) (c .before .before .first-of .ensures) (c .judge .ensures))
+    (λ c κs. let s = c .before .before .before .before .before .before .before .before .before in
+    let long = length-set (s .args .exclusive .now) (s .args .k - 1) (c .before .before .before .before .is-exclusive .result) in
+    (omega arith, (omega arith, omega (arith, long))))
+    (λ c. let s = c .before .before .before .before .before .before .before .before .before .before .before .before in
+    c .before .exclusive .given ∙ length-set (s .args .exclusive .now) (s .args .k - 1) (c .before .before .before .before .before .before .before .is-exclusive .result))
+    (λ c. let s = c .before .before .before .before .before .before .before .before .before .before .before .before in
+    turn (s .args .rows .now) (s .args .exclusive .now) _ (c .before .before .before .before .before .before .before .before .before .if1 .left) (s .pre .1 .1)
+    (c .before .before .before .before .before .before .before .is-exclusive .ensures) (c .before .before .before .before .before .fault-of .ensures) (c .before .before .before .before .first-of .ensures) (c .before .before .judge .ensures))
