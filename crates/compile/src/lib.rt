@@ -21,12 +21,13 @@ ghost use Rattle.boxes.specs.Compile as paper;
 ghost use Rattle.field.specs.Limits.{plan-limit};
 ghost use Rattle.compile.specs.Built.{compiling-says, built-says, BuiltIs, ShortIs, Stands, Lends, Tries, Leaves, lent};
 
-// Plans of at most so many bytes are tried in room of their size first: to make the room must not cost more than the plan.
-pub const SMALL_PLAN: usize = 128;
+// Plans of at most so many bytes are tried in room of their size first, a quarter of the next larger one, so that to make the room costs no more
+// than the plan or its net is worth.
+pub const SMALL_PLAN: usize = 64;
 
-pub const MIDDLE_PLAN: usize = 512;
+pub const MIDDLE_PLAN: usize = 256;
 
-pub const WIDE_PLAN: usize = 2048;
+pub const WIDE_PLAN: usize = 1024;
 
 // The counts of the net, or the first refusal with what it carries.
 pub enum Compiling {
@@ -170,7 +171,7 @@ fn compile_large(plan: &[u8], kinds: &mut [u8], rows: &mut [u16], arcs: &mut [u1
     )
 }
 
-// In room for 512 transitions and 8,192 arcs, if that is enough.
+// In room for 256 transitions and 4,096 arcs, if that is enough.
 fn compile_wide(plan: &[u8], kinds: &mut [u8], rows: &mut [u16], arcs: &mut [u16]) -> Built
     ensures { λ r. ⌜ Leaves (now (plan .entry)) (lent (now (kinds .entry)) (now (rows .entry)) (now (arcs .entry))) (built-says r) (now (kinds .exit)) (now (rows .exit)) (now (arcs .exit)) ⌝ }
 {
@@ -179,35 +180,6 @@ fn compile_wide(plan: &[u8], kinds: &mut [u8], rows: &mut [u16], arcs: &mut [u16
     }
     let mut table = [0u16; 2 * WIDE_PLAN];
     let mut counts = [0u16; WIDE_PLAN];
-    let mut list = [0u16; 1536];
-    let mut made_rows = [0u16; 3072];
-    let mut made_arcs = [0u16; 8192];
-    let tried = compile_in(
-        plan,
-        &mut table,
-        &mut counts,
-        &mut list,
-        &mut made_rows,
-        &mut made_arcs,
-        kinds,
-        rows,
-        arcs,
-    );
-    if found_room(tried) {
-        return tried;
-    }
-    compile_large(plan, kinds, rows, arcs)
-}
-
-// In room for 256 transitions and 4,096 arcs, if that is enough.
-fn compile_middle(plan: &[u8], kinds: &mut [u8], rows: &mut [u16], arcs: &mut [u16]) -> Built
-    ensures { λ r. ⌜ Leaves (now (plan .entry)) (lent (now (kinds .entry)) (now (rows .entry)) (now (arcs .entry))) (built-says r) (now (kinds .exit)) (now (rows .exit)) (now (arcs .exit)) ⌝ }
-{
-    if MIDDLE_PLAN < plan.len() {
-        return compile_wide(plan, kinds, rows, arcs);
-    }
-    let mut table = [0u16; 2 * MIDDLE_PLAN];
-    let mut counts = [0u16; MIDDLE_PLAN];
     let mut list = [0u16; 768];
     let mut made_rows = [0u16; 1536];
     let mut made_arcs = [0u16; 4096];
@@ -225,10 +197,39 @@ fn compile_middle(plan: &[u8], kinds: &mut [u8], rows: &mut [u16], arcs: &mut [u
     if found_room(tried) {
         return tried;
     }
-    compile_wide(plan, kinds, rows, arcs)
+    compile_large(plan, kinds, rows, arcs)
 }
 
 // In room for 64 transitions and 1,024 arcs, if that is enough.
+fn compile_middle(plan: &[u8], kinds: &mut [u8], rows: &mut [u16], arcs: &mut [u16]) -> Built
+    ensures { λ r. ⌜ Leaves (now (plan .entry)) (lent (now (kinds .entry)) (now (rows .entry)) (now (arcs .entry))) (built-says r) (now (kinds .exit)) (now (rows .exit)) (now (arcs .exit)) ⌝ }
+{
+    if MIDDLE_PLAN < plan.len() {
+        return compile_wide(plan, kinds, rows, arcs);
+    }
+    let mut table = [0u16; 2 * MIDDLE_PLAN];
+    let mut counts = [0u16; MIDDLE_PLAN];
+    let mut list = [0u16; 192];
+    let mut made_rows = [0u16; 384];
+    let mut made_arcs = [0u16; 1024];
+    let tried = compile_in(
+        plan,
+        &mut table,
+        &mut counts,
+        &mut list,
+        &mut made_rows,
+        &mut made_arcs,
+        kinds,
+        rows,
+        arcs,
+    );
+    if found_room(tried) {
+        return tried;
+    }
+    compile_wide(plan, kinds, rows, arcs)
+}
+
+// In room for 16 transitions and 256 arcs, if that is enough.
 fn compile_small(plan: &[u8], kinds: &mut [u8], rows: &mut [u16], arcs: &mut [u16]) -> Built
     ensures { λ r. ⌜ Leaves (now (plan .entry)) (lent (now (kinds .entry)) (now (rows .entry)) (now (arcs .entry))) (built-says r) (now (kinds .exit)) (now (rows .exit)) (now (arcs .exit)) ⌝ }
 {
@@ -237,9 +238,9 @@ fn compile_small(plan: &[u8], kinds: &mut [u8], rows: &mut [u16], arcs: &mut [u1
     }
     let mut table = [0u16; 2 * SMALL_PLAN];
     let mut counts = [0u16; SMALL_PLAN];
-    let mut list = [0u16; 384];
-    let mut made_rows = [0u16; 384];
-    let mut made_arcs = [0u16; 1024];
+    let mut list = [0u16; 48];
+    let mut made_rows = [0u16; 96];
+    let mut made_arcs = [0u16; 256];
     let tried = compile_in(
         plan,
         &mut table,

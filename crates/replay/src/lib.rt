@@ -137,7 +137,7 @@ fn replay_large(plan: &[u8], record: &[u8], marking: &mut [u8]) -> Ran
     replay_built(built, &rows, &arcs, record, marking)
 }
 
-// In room for 512 transitions and 8,192 arcs, if that is enough.
+// In room for 256 transitions and 4,096 arcs, if that is enough.
 fn replay_wide(plan: &[u8], record: &[u8], marking: &mut [u8]) -> Ran
     ensures { λ r. ⌜ Leaves (now (plan .entry)) (now («record» .entry)) (now (marking .entry)) r (now (marking .exit)) ⌝ }
 {
@@ -146,32 +146,6 @@ fn replay_wide(plan: &[u8], record: &[u8], marking: &mut [u8]) -> Ran
     }
     let mut table = [0u16; 2 * WIDE_PLAN];
     let mut counts = [0u16; WIDE_PLAN];
-    let mut list = [0u16; 1536];
-    let mut rows = [0u16; 3072];
-    let mut arcs = [0u16; 8192];
-    let built = build(
-        plan,
-        &mut table,
-        &mut counts,
-        &mut list,
-        &mut rows,
-        &mut arcs,
-    );
-    if found_room(built) {
-        return replay_built(built, &rows, &arcs, record, marking);
-    }
-    replay_large(plan, record, marking)
-}
-
-// In room for 256 transitions and 4,096 arcs, if that is enough.
-fn replay_middle(plan: &[u8], record: &[u8], marking: &mut [u8]) -> Ran
-    ensures { λ r. ⌜ Leaves (now (plan .entry)) (now («record» .entry)) (now (marking .entry)) r (now (marking .exit)) ⌝ }
-{
-    if MIDDLE_PLAN < plan.len() {
-        return replay_wide(plan, record, marking);
-    }
-    let mut table = [0u16; 2 * MIDDLE_PLAN];
-    let mut counts = [0u16; MIDDLE_PLAN];
     let mut list = [0u16; 768];
     let mut rows = [0u16; 1536];
     let mut arcs = [0u16; 4096];
@@ -186,10 +160,36 @@ fn replay_middle(plan: &[u8], record: &[u8], marking: &mut [u8]) -> Ran
     if found_room(built) {
         return replay_built(built, &rows, &arcs, record, marking);
     }
-    replay_wide(plan, record, marking)
+    replay_large(plan, record, marking)
 }
 
 // In room for 64 transitions and 1,024 arcs, if that is enough.
+fn replay_middle(plan: &[u8], record: &[u8], marking: &mut [u8]) -> Ran
+    ensures { λ r. ⌜ Leaves (now (plan .entry)) (now («record» .entry)) (now (marking .entry)) r (now (marking .exit)) ⌝ }
+{
+    if MIDDLE_PLAN < plan.len() {
+        return replay_wide(plan, record, marking);
+    }
+    let mut table = [0u16; 2 * MIDDLE_PLAN];
+    let mut counts = [0u16; MIDDLE_PLAN];
+    let mut list = [0u16; 192];
+    let mut rows = [0u16; 384];
+    let mut arcs = [0u16; 1024];
+    let built = build(
+        plan,
+        &mut table,
+        &mut counts,
+        &mut list,
+        &mut rows,
+        &mut arcs,
+    );
+    if found_room(built) {
+        return replay_built(built, &rows, &arcs, record, marking);
+    }
+    replay_wide(plan, record, marking)
+}
+
+// In room for 16 transitions and 256 arcs, if that is enough.
 fn replay_small(plan: &[u8], record: &[u8], marking: &mut [u8]) -> Ran
     ensures { λ r. ⌜ Leaves (now (plan .entry)) (now («record» .entry)) (now (marking .entry)) r (now (marking .exit)) ⌝ }
 {
@@ -198,9 +198,9 @@ fn replay_small(plan: &[u8], record: &[u8], marking: &mut [u8]) -> Ran
     }
     let mut table = [0u16; 2 * SMALL_PLAN];
     let mut counts = [0u16; SMALL_PLAN];
-    let mut list = [0u16; 384];
-    let mut rows = [0u16; 384];
-    let mut arcs = [0u16; 1024];
+    let mut list = [0u16; 48];
+    let mut rows = [0u16; 96];
+    let mut arcs = [0u16; 256];
     let built = build(
         plan,
         &mut table,
