@@ -62,7 +62,7 @@ numbers-few f ps = omega (arith, ap length (numbers-ones f 0 ps), ones-few 0 (ma
 
 -- ---- one action
 module _ (rows : List ℕ) (nodes : ℕ) (counts : List ℕ) (i : ℕ) where
-  counted-all : (E : Expr) → take (3 * nodes) counts ≡ node-counts E → Stands counts (3 * 0) (values counts-of E)
+  pub counted-all : (E : Expr) → take (3 * nodes) counts ≡ node-counts E → Stands counts (3 * 0) (values counts-of E)
   unfolding node-counts
   counted-all E e = stands-take counts (3 * nodes) (values counts-of E) e
 

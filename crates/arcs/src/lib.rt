@@ -3,7 +3,7 @@
 // positions change. So the work grows with the lists made on the way, and not with the places of the net.
 mod merge;
 pub mod moves;
-mod search;
+pub mod search;
 mod widen;
 
 use crate::merge::merge;
