@@ -57,7 +57,7 @@ leads-kept {level = level} path other same l = record {
 }
 
 pub long-kept : {R : Expr} {n a level : ℕ} (s t : State) → Did R n a level s t → Long s → Long t
-long-kept s t d l = (d .path-long ∙ l .0, d .index-long ∙ l .1)
+long-kept s t d l = d .path-long ∙ l
 
 -- ---- an operand
 pub descended : (rows counts : List ℕ) (k : ℕ) (operand : Operand) (c level base b : ℕ) (path other room index : List ℕ) (at : ℕ) (after : State) → level ≤ 30
@@ -65,13 +65,13 @@ pub descended : (rows counts : List ℕ) (k : ℕ) (operand : Operand) (c level 
     → Walked rows counts c (level + 1) b (state other room index at) after → Descended rows counts k operand c level base (state path room index at) after
 descended rows counts k operand c level base b path other room index at after small eb eo w nodes R n E here inner leads m X kid long some =
     let low : (j : ℕ) → j < 16 * (level + 1) → getD other j 0 ≡ getD path j 0 =
-    λ j h. ap (λ l. getD l j 0) eo ∙ level-low rows counts nodes k n E here inner operand c m X kid path level base (long .0) small j h in
-    let same : length other ≡ length path = ap length eo ∙ level-long rows counts nodes k n E here inner operand c m X kid path level base (long .0) small in
+    λ j h. ap (λ l. getD l j 0) eo ∙ level-low rows counts nodes k n E here inner operand c m X kid path level base long small j h in
+    let same : length other ≡ length path = ap length eo ∙ level-long rows counts nodes k n E here inner operand c m X kid path level base long small in
     let l : Leads rows counts nodes R c m X other (level + 1) b =
     subst (λ p. Leads rows counts nodes R c m X p (level + 1) b) (sym eo)
     (subst (λ z. Leads rows counts nodes R c m X (level-put rows counts k operand path (level + 1) base) (level + 1) z) (sym eb)
-    (leads-below rows counts nodes k n E here inner operand c m X kid path level base (long .0) small R leads)) in
-    let d = w nodes R m X (kid .here) l (same ∙ long .0, long .1) some in
+    (leads-below rows counts nodes k n E here inner operand c m X kid path level base long small R leads)) in
+    let d = w nodes R m X (kid .here) l (same ∙ long) some in
     record {
       path-kept = λ j h. d .path-kept j (omega arith) ∙ low j h;
       room-kept = d .room-kept;

@@ -100,9 +100,9 @@ did-spread R s u d i h =
       outputs = part-of (u .room) (u .index) (u .at) (4 * i + 2) (4 * i + 3) (arcs R Outputs i) (d .inside) (omega arith) (d .lists i low high Outputs);
     }
 
-pub all-spread : (rows : List ℕ) (nodes : ℕ) (counts path other : List ℕ) (c : Counts) (last : ℕ) (room index : List ℕ) (u : State) → length path ≡ 512 → length index ≡ 1024
+pub all-spread : (rows : List ℕ) (nodes : ℕ) (counts path other : List ℕ) (c : Counts) (last : ℕ) (room index : List ℕ) (u : State) → length path ≡ 512
     → c ≡ counts-at counts 0 → last ≡ base Exit c → other ≡ root-put path last → Walked rows counts 0 0 (c .entries) (state other room index 0) u → 0 < u .at
     → Spreads rows nodes counts (u .room) (u .index)
-all-spread rows nodes counts path other c last room index u long full e f g w some R of i h =
+all-spread rows nodes counts path other c last room index u long e f g w some R of i h =
     did-spread R (state other room index 0) u
-    (w nodes R 0 R (root-here rows nodes counts R of) (root-leads rows nodes counts R of path other c last long e f g) (ap length g ∙ root-long path last long, full) some) i h
+    (w nodes R 0 R (root-here rows nodes counts R of) (root-leads rows nodes counts R of path other c last long e f g) (ap length g ∙ root-long path last long) some) i h

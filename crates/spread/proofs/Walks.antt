@@ -36,12 +36,12 @@ module _ (index : List ℕ) (s x y : ℕ) where
 
 -- ---- an action
 module _ (index index′ room middle room′ : List ℕ) (i at inputs outputs r : ℕ) (l m : List ℕ) (first : Made room middle at inputs l) (second : Made middle room′ (at + inputs) outputs m)
-    (e : index′ ≡ pair-put (pair-put index (4 * i + 0) at inputs) (4 * i + 2) (at + inputs) outputs) (end : r ≡ at + inputs + outputs) (long : length index ≡ 1024) (small : i < 256) where
+    (e : index′ ≡ pair-put (pair-put index (4 * i + 0) at inputs) (4 * i + 2) (at + inputs) outputs) (end : r ≡ at + inputs + outputs) (fits : 4 * i + 4 ≤ length index) where
   abbrev one : List ℕ
   one = pair-put index (4 * i + 0) at inputs
 
-  one-long : length one ≡ 1024
-  one-long = pair-long index (4 * i + 0) at inputs ∙ long
+  one-long : length one ≡ length index
+  one-long = pair-long index (4 * i + 0) at inputs
 
   pub index-long : length index′ ≡ length index
   index-long = ap length e ∙ pair-long one (4 * i + 2) (at + inputs) outputs ∙ pair-long index (4 * i + 0) at inputs
@@ -88,16 +88,15 @@ module _ (rows counts : List ℕ) (k level base : ℕ) where
     unfolding actions
     did-action nodes R n l here leads long =
         let e : first-at rows k ≡ n = first-is rows counts nodes (action l) (here .at) in
-        let small : first-at rows k < 256 = omega (arith, here .acts) in
         let f = p .first in
         let s = p .second in
         record {
           path-kept = λ j h. refl;
           room-kept = λ j h. s .kept j (omega arith) ∙ f .kept j h;
-          index-kept = λ j h. index-low index index′ room (p .middle) room′ (first-at rows k) at (p .inputs) (p .outputs) r _ _ f s (p .pairs) (p .end) (long .1) small j (omega (arith, e));
+          index-kept = λ j h. index-low index index′ room (p .middle) room′ (first-at rows k) at (p .inputs) (p .outputs) r _ _ f s (p .pairs) (p .end) (p .fits) j (omega (arith, e));
           path-long = refl;
           room-long = s .long ∙ f .long;
-          index-long = index-long index index′ room (p .middle) room′ (first-at rows k) at (p .inputs) (p .outputs) r _ _ f s (p .pairs) (p .end) (long .1) small;
+          index-long = index-long index index′ room (p .middle) room′ (first-at rows k) at (p .inputs) (p .outputs) r _ _ f s (p .pairs) (p .end) (p .fits);
           more = omega (arith, p .end);
           inside = omega (arith, p .end, s .inside);
           lists = λ i low high side. go i low high side (e ∙ omega arith);
@@ -110,11 +109,11 @@ module _ (rows counts : List ℕ) (k level base : ℕ) where
         go i low high Inputs q =
             subst (Listed room′ index′ r (4 * i + 0)) (own-list i low high Inputs)
             (subst (λ z. Listed room′ index′ r (4 * z + 0) (image path level 0 (0 ∷ []))) q
-            (inputs-listed index index′ room (p .middle) room′ (first-at rows k) at (p .inputs) (p .outputs) r _ _ (p .first) (p .second) (p .pairs) (p .end) (long .1) (omega (arith, q, here .acts))))
+            (inputs-listed index index′ room (p .middle) room′ (first-at rows k) at (p .inputs) (p .outputs) r _ _ (p .first) (p .second) (p .pairs) (p .end) (p .fits)))
         go i low high Outputs q =
             subst (Listed room′ index′ r (4 * i + 2)) (own-list i low high Outputs)
             (subst (λ z. Listed room′ index′ r (4 * z + 2) (image path level 8 (0 ∷ []))) q
-            (outputs-listed index index′ room (p .middle) room′ (first-at rows k) at (p .inputs) (p .outputs) r _ _ (p .first) (p .second) (p .pairs) (p .end) (long .1) (omega (arith, q, here .acts))))
+            (outputs-listed index index′ room (p .middle) room′ (first-at rows k) at (p .inputs) (p .outputs) r _ _ (p .first) (p .second) (p .pairs) (p .end) (p .fits)))
 
     pub walked-action : Walked rows counts k level base (state path room index at) (state path room′ index′ r)
     walked-action nodes R n (action l) here leads long some = did-action nodes R n l here leads long

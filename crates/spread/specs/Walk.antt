@@ -87,7 +87,7 @@ pub record Did (R : Expr) (n count level : ℕ) (before after : State) : Type 0 
   pub lists : (i : ℕ) → n ≤ i → i < n + count → (side : Side) → Listed (after .room) (after .index) (after .at) (slot side i) (arcs R side i)
 
 abbrev pub Long : State → Type 0
-Long s = (length (s .path) ≡ 512) × (length (s .index) ≡ 1024)
+Long s = length (s .path) ≡ 512
 
 -- What a walk from node k leaves, whatever expression the node is.
 abbrev pub Walked : List ℕ → List ℕ → ℕ → ℕ → ℕ → State → State → Type 0
@@ -104,6 +104,7 @@ pub record Put (rows : List ℕ) (k : ℕ) (path : List ℕ) (level at r : ℕ) 
   pub inputs : ℕ
   pub outputs : ℕ
   pub middle : List ℕ
+  pub fits : 4 * first-at rows k + 4 ≤ length index
   pub first : Made room middle at inputs (image path level 0 (0 ∷ []))
   pub second : Made middle room′ (at + inputs) outputs (image path level 8 (0 ∷ []))
   pub end : r ≡ at + inputs + outputs

@@ -51,7 +51,7 @@ fn spread_over(
     room: &mut [u16],
     index: &mut [u16],
 ) -> bool
-    requires { ⌜ (length (now room) ≤ 65535) × (length (now path) ≡ 512) × (length (now index) ≡ 1024) ⌝ }
+    requires { ⌜ (length (now room) ≤ 65535) × (length (now path) ≡ 512) ⌝ }
     ensures long { λ _. ⌜ length (now (room .exit)) ≡ length (now (room .entry)) ⌝ }
     ensures spreads { λ r. ⌜ (r ≡ true → Spreads (now (rows .entry)) nodes (now (counts .entry)) (now (room .exit)) (now (index .exit))) ⌝ }
 {
@@ -69,20 +69,19 @@ fn spread_over(
 }
 
 // The input and output places of every action, rising, one list behind the other in the room. The index has four numbers for an action:
-// where its input places start and how many they are, where its output places start and how many they are. False: they do not fit the room.
+// where its input places start and how many they are, where its output places start and how many they are. False: they do not fit the room or the index.
 pub fn spread(
     rows: &[u16],
     nodes: usize,
     counts: &[u16],
     room: &mut [u16],
-    index: &mut [u16; 1024],
+    index: &mut [u16],
 ) -> bool
     ensures { λ r. ⌜ (r ≡ true → Spreads (now (rows .entry)) nodes (now (counts .entry)) (now (room .exit)) (now (index .exit))) ⌝ }
 {
     if 65535 < room.len() {
         return false;
     }
-    numbers_in(index);
     let mut path = no_path();
     numbers_in(&path);
     spread_over(rows, nodes, counts, &mut path, room, index)

@@ -39,6 +39,9 @@ fn put_action(
     ensures put { λ r. ⌜ (0 < r → Put (now (rows .entry)) k (now (path .entry)) level at r (now (room .entry)) (now (room .exit)) (now (index .entry)) (now (index .exit))) ⌝ }
 {
     let i = row_number(rows, k, FIRST);
+    if index.len() < 4 * i + 4 {
+        return 0;
+    }
     let inputs = list_places(path, level, 0, room, at);
     if inputs == 0 {
         return 0;

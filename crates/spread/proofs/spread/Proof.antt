@@ -1,5 +1,5 @@
 -- `spread` meets its contract: the walk, with a path of its own.
--- The lengths of the arrays are known from their loans as slices. Assumes nothing.
+-- The length of the path is known from its loan as a slice. Assumes nothing.
 use Rattle.spread.proofs.Climbs.{no-claim}
 use borrow.Author.Needs.{needs}
 use Rattle.spread.proofs.spread.Statement.{statement}
@@ -17,9 +17,6 @@ no-path-requires c κs = search needs
 slice-aggregate-numbers-in : tie.Need-slice-aggregate-numbers-in
 slice-aggregate-numbers-in c = search needs
 
-numbers-in-requires-2 : tie.Need-numbers-in-requires-2
-numbers-in-requires-2 c κs = search needs
-
 slice-aggregate-spread-over : tie.Need-slice-aggregate-spread-over
 slice-aggregate-spread-over c = search needs
 
@@ -29,6 +26,9 @@ spread-over-requires c κs = search needs
 same-length : tie.Need-same-length
 same-length c = search needs
 
+same-length-2 : tie.Need-same-length-2
+same-length-2 c = search needs
+
 returns-2 : tie.Need-returns-2
 returns-2 c = search needs
 
@@ -37,11 +37,11 @@ spread-spec =
     tie.close
     (tie.spec
     returns
-    numbers-in-requires
     no-path-requires
     slice-aggregate-numbers-in
-    numbers-in-requires-2
+    numbers-in-requires
     slice-aggregate-spread-over
     spread-over-requires
     same-length
+    same-length-2
     returns-2)

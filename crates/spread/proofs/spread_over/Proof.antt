@@ -48,7 +48,7 @@ returns-2 c =
     let a = s .args in
     let w = c .before .before .before .before .before .before .before .walk .ensures in (
       w .0,
-      λ e. all-spread (a .rows .now) (a .nodes) (a .counts .now) (a .path .now) _ (c .before .before .before .before .before .before .before .before .before .before .before .before .before .before .before .before .before .counts-at .result) _ (a .room .now) (a .index .now) (state _ _ _ _) (s .pre .1) (s .pre .2) (c .before .before .before .before .before .before .before .before .before .before .before .before .before .before .before .before .before .counts-at .ensures .0) (c .before .before .before .before .before .before .before .before .before .before .before .before .before .before .before .before .base-of .ensures)
+      λ e. all-spread (a .rows .now) (a .nodes) (a .counts .now) (a .path .now) _ (c .before .before .before .before .before .before .before .before .before .before .before .before .before .before .before .before .before .counts-at .result) _ (a .room .now) (a .index .now) (state _ _ _ _) (s .pre .1) (c .before .before .before .before .before .before .before .before .before .before .before .before .before .before .before .before .before .counts-at .ensures .0) (c .before .before .before .before .before .before .before .before .before .before .before .before .before .before .before .before .base-of .ensures)
           (c .before .before .before .before .before .before .before .before .before .before .before .before .before .before .put-root .ensures (c .before .before .before .before .before .before .before .before .before .before .before .if1 .taken)) (w .1) (omega (arith, c .if2 .left)),
     )
 
