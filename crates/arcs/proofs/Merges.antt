@@ -208,3 +208,9 @@ sets-part n out l =
     ap₂ (λ x y. take n out ++ (x ++ y)) behind none
     ∙ ap₂ (λ x y. x ++ y) (sym (sets-front n out n l (omega arith))) (append-nil (drop n (sets out n l)))
     ∙ take-append-drop n (sets out n l)
+
+-- The whole, where a merge was into its part from n on.
+pub merged-part : (n : ℕ) (out : List ℕ) {r : ℕ} {l after : List ℕ} → Merged (length (part out n)) r l (part out n) after → r ≤ length out - n
+    → take n out ++ (after ++ drop (length out - n) (drop n out)) ≡ sets out n l
+merged-part n out {r} {l} {after} w h =
+    ap (λ m. take n out ++ (m ++ drop (length out - n) (drop n out))) (w .written (omega (arith, ap length (part-is out n), length-drop n out))) ∙ sets-part n out l
