@@ -21,7 +21,7 @@ use Rattle.arcs.specs.Positions.{ones, stretched, repeated}
 use Rattle.arcs.specs.Moves.{passes, box, Lies, moved, base}
 use Rattle.arcs.specs.Widen.{Became, Stretchable}
 use Rattle.arcs.specs.Search.{counts-at, In, Asks, Found}
-use Rattle.arcs.specs.Merge.{union, Mergeable}
+use Rattle.arcs.specs.Merge.{union, Merged}
 use Rattle.arcs.specs.Asked.{Of, Asked, Begins}
 use Rattle.arcs.specs.declared.moves.Side.{Side}
 use Rattle.arcs.specs.declared.moves.Kind.{Kind}
@@ -31,7 +31,7 @@ use Rattle.arcs.proofs.Ones.{numbers-ones, ones-before, ones-few, off-a
 use Rattle.arcs.proofs.Levels.{lengths, as-itself, behind, behind-two}
 use Rattle.arcs.proofs.Sizes.{sizes, box-lengths, counts-here}
 use Rattle.arcs.proofs.Searches.{ones-fit}
-use Rattle.arcs.proofs.Merges.{union-numbers}
+use Rattle.arcs.proofs.Merges.{union-numbers, merged-begins}
 
 -- ---- from the positions in one list to the numbers among all places
 shifted-ones : (off : ℕ) (cs : List Bool) (ps : List ℕ) → ones 0 cs ≡ ps → ones off cs ≡ stretched 1 off ps
@@ -102,6 +102,9 @@ module _ (rows : List ℕ) (nodes : ℕ) (counts : List ℕ) (i : ℕ) where
 pub begins-within : {out : List ℕ} {r : ℕ} {l : List ℕ} → Begins out r l → r ≤ length out
 begins-within {out} {r} {l} b = omega (arith, length-take r out, ap length (b .list), b .all)
 
+begins-length : {out : List ℕ} {r : ℕ} {l : List ℕ} → Begins out r l → r ≡ length (take r out)
+begins-length b = b .all ∙ ap length (sym (b .list))
+
 module _ (rows : List ℕ) (nodes : ℕ) (counts : List ℕ) (i j : ℕ) where
   abbrev Both : Item
   Both = two i j
@@ -127,25 +130,17 @@ module _ (rows : List ℕ) (nodes : ℕ) (counts : List ℕ) (i j : ℕ) where
     union-is E o =
         ap₂ union (first E (of-first E o) .list) (second E (of-second E o) .list) ∙ union-numbers (passes side i) (passes side j) 0 (places 0 E)
 
-    pub mergeable : (out : List ℕ) → length out ≡ 2048 → Asked rows nodes counts Both → Mergeable A B out a b
-    mergeable out long q =
-        let p = first (q .E) (of-first (q .E) (q .of)) in
-        let s = second (q .E) (of-second (q .E) (q .of)) in
-        let few = q .of .few in
-        record {
-          pair = record {
-            first = begins-within p;
-            second = begins-within s;
-            most-first = omega (arith, p .all, numbers-few (passes side i) (places 0 (q .E)));
-            most-second = omega (arith, s .all, numbers-few (passes side j) (places 0 (q .E)));
-          };
-          long = long;
-          room = omega (arith, ap length (union-is (q .E) (q .of)), numbers-few (by-item (passes side) Both) (places 0 (q .E)));
-        }
+    pub first-length : Asked rows nodes counts Both → a ≡ length (take a A)
+    first-length q = begins-length (first (q .E) (of-first (q .E) (q .of)))
 
-    pub two-arcs : (out : List ℕ) (r : ℕ) → Begins out r (union (take a A) (take b B)) → (E : Expr) → Of rows nodes counts Both E
-        → Begins out r (numbers (by-item (passes side) Both) 0 (places 0 E))
-    two-arcs out r w E o = subst (Begins out r) (union-is E o) w
+    pub second-length : Asked rows nodes counts Both → b ≡ length (take b B)
+    second-length q = begins-length (second (q .E) (of-second (q .E) (q .of)))
+
+    pub two-arcs : {before after : List ℕ} {r : ℕ} → length before ≡ 2048 → Merged (length before) r (union (take a A) (take b B)) before after → (E : Expr) → Of rows nodes counts Both E
+        → Begins after r (numbers (by-item (passes side) Both) 0 (places 0 E))
+    two-arcs {before} {after} {r} long w E o =
+        subst (Begins after r) (union-is E o)
+        (merged-begins w (omega (arith, ap length (union-is E o), numbers-few (by-item (passes side) Both) (places 0 E), o .few)))
 
 -- ---- an item
 pub item-of-one : (i j : ℕ) → j ≡ none → item-of i j ≡ one i

@@ -1,7 +1,7 @@
 // 01, "Box construction": the input and output places of one transition, found from the node table and the counts of every node. The
 // action is looked up from the root; its own entry or exit place is one position, and on the way back up each node says how the
 // positions change. So the work grows with the lists made on the way, and not with the places of the net.
-mod merge;
+pub mod merge;
 pub mod moves;
 pub mod search;
 mod widen;
@@ -71,8 +71,9 @@ fn arcs_of_two(
 {
     let a = arcs_of_action(rows, nodes, counts, i, side, first);
     let b = arcs_of_action(rows, nodes, counts, j, side, second);
-    numbers_in(out);
-    merge(first, a, second, b, out)
+    let s = &first[..];
+    let t = &second[..];
+    merge(&s[..a], &t[..b], out)
 }
 
 // The input or output places of the transition of a first action and a second, or 65,535, rising. `left` and `right` are work room.
