@@ -9,12 +9,10 @@ use mathlib.Core.Bool.{Bool, true, false, cond, _||_}
 use mathlib.Core.List.{List, [], _∷_, _++_, append-nil}
 use lib.ListN.{length, getD, take, drop, set, length-set, length-drop, take-append-drop, drop-of-length-le}
 use lib.Dec.{ltb}
-use lib.Seq.{sets, sets-eq, drop-cons, take-at, take-all, take-set-le, drop-set-add}
+use lib.Seq.{sets, drop-cons, take-all, take-set-le, drop-set-add}
 use borrow.Author.Tests.{lt-ltb, le-ltb}
 use Rattle.algebra.specs.Places.{Place}
 use Rattle.algebra.specs.Arcs.{numbers}
-use Rattle.algebra.proofs.FlatLaws.{below-or-not}
-use Rattle.arcs.specs.Asked.{Begins}
 use Rattle.arcs.specs.Merge.{into, union, Merged}
 
 into-low : (a : ℕ) (rest : List ℕ → List ℕ) (b : ℕ) (bs : List ℕ) → a < b → into a rest (b ∷ bs) ≡ a ∷ rest (b ∷ bs)
@@ -172,16 +170,6 @@ module _ {A B before out : List ℕ} {i j n : ℕ} (g : Merging A B before out i
   second-copied h = rest-copied (ap (λ l. union l (drop j B)) (drop-of-length-le A h) ∙ none-first (drop j B))
 
 -- ---- what a caller has of it
--- Where there is room for all, the list stands in front.
-pub merged-begins : {r : ℕ} {l before after : List ℕ} → Merged (length before) r l before after → length l ≤ length before → Begins after r l
-merged-begins {r} {l} {before} {after} w h =
-    below-or-not (length before) r
-    (λ p. absurd (omega (arith, w .beyond p)))
-    (λ p. record {
-      all = w .ends p;
-      list = ap (take r) (w .written p ∙ sets-eq l before 0 (omega arith)) ∙ take-at l (drop (0 + length l) before) r (sym (w .ends p));
-    })
-
 -- A run of stores in the part of a list from n on.
 sets-front : (n : ℕ) (out : List ℕ) (k : ℕ) (l : List ℕ) → n ≤ k → take n (sets out k l) ≡ take n out
 sets-front n out k [] h = refl
