@@ -46,14 +46,14 @@ module _ (rows table : List ℕ) (count : ℕ) where
   after-is : {k n : ℕ} (E : Expr) → At rows table count k n E → after-at rows k ≡ k + node-count E
   after-is E h = node-says rows count E (h .node) .after
 
-  first-is : {k n : ℕ} (E : Expr) → At rows table count k n E → first-at rows k ≡ n
+  pub first-is : {k n : ℕ} (E : Expr) → At rows table count k n E → first-at rows k ≡ n
   first-is E h = node-first E (h .node)
 
   pub node-inside : {k n : ℕ} (E : Expr) → At rows table count k n E → k < count
   node-inside E h = omega (arith, h .node .inside, node-count-positive E)
 
   -- ---- the operands
-  abbrev Two : ℕ → ℕ → Expr → Expr → Type 0
+  abbrev pub Two : ℕ → ℕ → Expr → Expr → Type 0
   Two k n E F = At rows table count (k + 1) n E × At rows table count (k + 1 + node-count E) (n + actions E) F
 
   counts-of-two : (k : ℕ) (X E F : Expr) → Stands table (3 * k) (counts-of X ++ (values counts-of E ++ values counts-of F))
@@ -66,19 +66,19 @@ module _ (rows table : List ℕ) (count : ℕ) where
   both k n {a} {b} E F d s =
       (record { offset = a; node = d .0; counted = s .0 }, record { offset = b; node = d .1; counted = s .1 })
 
-  sequence-parts : {k n : ℕ} (E F : Expr) → At rows table count k n (sequence E F) → Two k n E F
+  pub sequence-parts : {k n : ℕ} (E F : Expr) → At rows table count k n (sequence E F) → Two k n E F
   unfolding values
   sequence-parts {k} {n} E F h = both k n E F (sequence-operands rows count E F (h .node)) (counts-of-two k (sequence E F) E F (h .counted))
 
-  choice-parts : {k n : ℕ} (E F : Expr) → At rows table count k n (choice E F) → Two k n E F
+  pub choice-parts : {k n : ℕ} (E F : Expr) → At rows table count k n (choice E F) → Two k n E F
   unfolding values
   choice-parts {k} {n} E F h = both k n E F (choice-operands rows count E F (h .node)) (counts-of-two k (choice E F) E F (h .counted))
 
-  parallel-parts : {k n : ℕ} (E F : Expr) → At rows table count k n (parallel E F) → Two k n E F
+  pub parallel-parts : {k n : ℕ} (E F : Expr) → At rows table count k n (parallel E F) → Two k n E F
   unfolding values
   parallel-parts {k} {n} E F h = both k n E F (parallel-operands rows count E F (h .node)) (counts-of-two k (parallel E F) E F (h .counted))
 
-  loop-parts : {k n : ℕ} (E F G : Expr) → At rows table count k n (loop E F G)
+  pub loop-parts : {k n : ℕ} (E F G : Expr) → At rows table count k n (loop E F G)
       → Two k n E F × At rows table count (k + 1 + node-count E + node-count F) (n + actions E + actions F) G
   unfolding values
   loop-parts {k} {n} E F G h =
@@ -88,7 +88,7 @@ module _ (rows table : List ℕ) (count : ℕ) where
       let (u, v) = counts-split table (k + 1 + node-count E) F (values counts-of G) t in
       (both k n E F d (s, u), record { offset = _; node = g; counted = v })
 
-  scope-part : {k n a : ℕ} (E : Expr) → At rows table count k n (scope a E) → At rows table count (k + 1) n E
+  pub scope-part : {k n a : ℕ} (E : Expr) → At rows table count k n (scope a E) → At rows table count (k + 1) n E
   unfolding values
   scope-part {k} {n} {a} E h =
       record { offset = _; node = scope-operand rows count E (h .node); counted = counts-behind table k (scope a E) (values counts-of E) (h .counted) }
@@ -108,7 +108,7 @@ module _ (rows table : List ℕ) (count : ℕ) where
   Picks k i c n (scope a E) = Picked k i c First n E
 
   -- A whole's places are within the limit, and so are an operand's.
-  few-of : (n m : ℕ) (E F : Expr) → length (places n E) ≤ place-limit → total F ≤ total E → length (places m F) ≤ place-limit
+  pub few-of : (n m : ℕ) (E F : Expr) → length (places n E) ≤ place-limit → total F ≤ total E → length (places m F) ≤ place-limit
   few-of n m E F few w = omega (arith, places-length n E, places-length m F)
 
   picked : {k i node n : ℕ} {c : Child} (o : Operand) (E : Expr) → c ≡ child o node → k < node → At rows table count node n E → n ≤ i → i < n + actions E
@@ -121,17 +121,17 @@ module _ (rows table : List ℕ) (count : ℕ) where
 
   -- Where the second and the third operand are, and their first actions.
   module _ (k n : ℕ) (E F : Expr) (parts : Two k n E F) where
-    second-at : after-at rows (k + 1) ≡ k + 1 + node-count E
+    pub second-at : after-at rows (k + 1) ≡ k + 1 + node-count E
     second-at = after-is E (parts .0)
 
-    second-from : first-at rows (after-at rows (k + 1)) ≡ n + actions E
+    pub second-from : first-at rows (after-at rows (k + 1)) ≡ n + actions E
     second-from = ap (first-at rows) second-at ∙ first-is F (parts .1)
 
     module _ (G : Expr) (last : At rows table count (k + 1 + node-count E + node-count F) (n + actions E + actions F) G) where
-      third-at : after-at rows (after-at rows (k + 1)) ≡ k + 1 + node-count E + node-count F
+      pub third-at : after-at rows (after-at rows (k + 1)) ≡ k + 1 + node-count E + node-count F
       third-at = ap (after-at rows) second-at ∙ after-is F (parts .1)
 
-      third-from : first-at rows (after-at rows (after-at rows (k + 1))) ≡ n + actions E + actions F
+      pub third-from : first-at rows (after-at rows (after-at rows (k + 1))) ≡ n + actions E + actions F
       third-from = ap (first-at rows) third-at ∙ first-is G last
 
   module _ (k i n : ℕ) {c : Child} (is : c ≡ child-by rows k i) where

@@ -1,20 +1,19 @@
 -- Merging two rising lists: the union of the numbers of the places that pass one test or another, and the turns of the loop that writes it.
 -- Both lists are written down while the places are walked once, so the next number of the union is the lesser of the two next ones.
-use Prim.Native.Nat.{ℕ, suc, _+_, _≤_, _<_}
+use Prim.Native.Nat.{ℕ, suc, _+_, _-_, _≤_, _<_, min}
 use native.Mathlib.Omega.{arith}
 use native.Mathlib.Numerals.{add-one}
-use native.Mathlib.Nat.{add-zero}
-use mathlib.Core.Path.{_≡_, refl, sym, _∙_, ap, ap₂, subst}
+use native.Mathlib.Nat.{add-zero, add-suc}
+use mathlib.Core.Path.{_≡_, refl, sym, _∙_, ap, ap₂}
 use mathlib.Core.Bool.{Bool, true, false, cond, _||_}
-use mathlib.Core.List.{List, [], _∷_, _++_, append-assoc, append-nil}
-use lib.ListN.{length, getD, take, drop, set, length-set, length-take, length-append, drop-of-length-le}
-use lib.Seq.{drop-cons, take-suc-set, getD-take, length-take-le}
+use mathlib.Core.List.{List, [], _∷_, _++_, append-nil}
+use lib.ListN.{length, getD, take, drop, set, length-set, length-drop, take-append-drop, drop-of-length-le}
+use lib.Dec.{ltb}
+use lib.Seq.{sets, drop-cons, take-all, take-set-le, drop-set-add}
 use borrow.Author.Tests.{lt-ltb, le-ltb}
 use Rattle.algebra.specs.Places.{Place}
 use Rattle.algebra.specs.Arcs.{numbers}
-use Rattle.arcs.specs.Asked.{Begins}
-use Rattle.arcs.specs.Merge.{into, union, pick, Pair, Mergeable, Next}
-use Rattle.arcs.specs.declared.merge.Pick.{Pick}
+use Rattle.arcs.specs.Merge.{into, union, Merged}
 
 into-low : (a : ℕ) (rest : List ℕ → List ℕ) (b : ℕ) (bs : List ℕ) → a < b → into a rest (b ∷ bs) ≡ a ∷ rest (b ∷ bs)
 unfolding into
@@ -80,114 +79,126 @@ union-numbers f g k (p ∷ ps) = go (f p) (g p) (union-numbers f g (suc k) ps)
     go false true e = low-second k (rest f) (rest g) (numbers-from f (suc k) ps) ∙ ap (λ l. k ∷ l) e
     go false false e = e
 
+head : (A : List ℕ) (i : ℕ) → i < length A → drop i A ≡ getD A i 0 ∷ drop (i + 1) A
+head A i h = drop-cons A i 0 h ∙ ap (λ k. getD A i 0 ∷ drop k A) (sym (add-one i))
+
+-- ---- the copy: the run of stores of what is left
+pub copy-next : (list out : List ℕ) (i n : ℕ) → i < length list → sets out n (drop i list) ≡ sets (set out n (getD list i 0)) (n + 1) (drop (i + 1) list)
+copy-next list out i n h = ap (sets out n) (head list i h) ∙ ap (λ k. sets (set out n (getD list i 0)) k (drop (i + 1) list)) (sym (add-one n))
+
+pub copy-end : (list out : List ℕ) (i n : ℕ) → length list ≤ i → sets out n (drop i list) ≡ out
+copy-end list out i n h = ap (sets out n) (drop-of-length-le list h)
+
 -- ---- the loop: what is written, and what is left
-pub record Merging (A B : List ℕ) (a b : ℕ) (out : List ℕ) (i j n : ℕ) : Type 0 where
-  pub first : i ≤ a
-  pub second : j ≤ b
-  pub long : length out ≡ 2048
-  pub is : take n out ++ union (drop i (take a A)) (drop j (take b B)) ≡ union (take a A) (take b B)
-  pub written : n ≤ 2048
+pub record Merging (A B before out : List ℕ) (i j n : ℕ) : Type 0 where
+  pub first : i ≤ length A
+  pub second : j ≤ length B
+  pub long : length out ≡ length before
+  pub room : n ≤ length out
+  pub all : length (union A B) ≡ n + length (union (drop i A) (drop j B))
+  pub is : sets before 0 (union A B) ≡ sets out n (union (drop i A) (drop j B))
 
-head : (A : List ℕ) (a i : ℕ) → a ≤ length A → i < a → drop i (take a A) ≡ getD A i 0 ∷ drop (i + 1) (take a A)
-head A a i l h =
-    drop-cons (take a A) i 0 (omega (arith, length-take-le a A l)) ∙ rw (getD-take a A i 0 h, add-one) refl
+pub merge-start : (A B before : List ℕ) → Merging A B before before 0 0 0
+merge-start A B before = record { first = omega arith; second = omega arith; long = refl; room = omega arith; all = omega arith; is = refl }
 
-nothing : (A : List ℕ) (a i : ℕ) → a ≤ i → drop i (take a A) ≡ []
-nothing A a i h = drop-of-length-le (take a A) {i = i} (omega (arith, length-take a A))
+some-into : (a : ℕ) (rest : List ℕ → List ℕ) (bs : List ℕ) → 0 < length (into a rest bs)
+unfolding into
+some-into a rest [] = omega arith
+some-into a rest (b ∷ bs) = go (ltb a b) (ltb b a)
+  where
+    go : (c d : Bool) → 0 < length (cond c (a ∷ rest (b ∷ bs)) (cond d (b ∷ into a rest bs) (a ∷ rest bs)))
+    go true d = omega arith
+    go false true = omega arith
+    go false false = omega arith
 
-put : (out : List ℕ) (n x : ℕ) (ls : List ℕ) → n < length out → take (n + 1) (set out n x) ++ ls ≡ take n out ++ (x ∷ ls)
-put out n x ls h = rw (add-one, take-suc-set out n x h, append-assoc) refl
-
-none-left : (ms ns rest : List ℕ) (v : ℕ) → ms ≡ [] → ns ≡ v ∷ rest → union ms ns ≡ v ∷ union ms rest
+some-union : (x : ℕ) (ms ns : List ℕ) → 0 < length (union (x ∷ ms) ns)
 unfolding union
-none-left ms ns rest v e f = rw (e, f) refl
+some-union x ms ns = some-into x (union ms) ns
 
-none-right : (ms rest ns : List ℕ) (v : ℕ) → ns ≡ [] → ms ≡ v ∷ rest → union ms ns ≡ v ∷ union rest ns
+none-second : (ms : List ℕ) → union ms [] ≡ ms
 unfolding union into
-none-right ms rest ns v e f = rw (e, f) refl
+none-second [] = refl
+none-second (x ∷ ms) = ap (λ l. x ∷ l) (none-second ms)
 
-less : (ms ms′ ns ns′ : List ℕ) (x y : ℕ) → ms ≡ x ∷ ms′ → ns ≡ y ∷ ns′ → x < y → union ms ns ≡ x ∷ union ms′ ns
-less ms ms′ ns ns′ x y e f h = rw (e, f) (low-first x ms′ (y ∷ ns′) h)
+module _ {A B before out : List ℕ} {i j n : ℕ} (g : Merging A B before out i j n) where
+  -- The next number is written.
+  wrote : {i′ j′ v : ℕ} → n < length out → i′ ≤ length A → j′ ≤ length B → union (drop i A) (drop j B) ≡ v ∷ union (drop i′ A) (drop j′ B) → Merging A B before (set out n v) i′ j′ (n + 1)
+  wrote {i′} {j′} {v} h a b e = record {
+    first = a;
+    second = b;
+    long = length-set out n v ∙ g .long;
+    room = omega (arith, length-set out n v);
+    all = omega (arith, g .all, ap length e);
+    is = g .is ∙ ap (sets out n) e ∙ ap (λ k. sets (set out n v) k (union (drop i′ A) (drop j′ B))) (sym (add-one n));
+  }
 
-more : (ms ms′ ns ns′ : List ℕ) (x y : ℕ) → ms ≡ x ∷ ms′ → ns ≡ y ∷ ns′ → y < x → union ms ns ≡ y ∷ union ms ns′
-more ms ms′ ns ns′ x y e f h = rw (e, f) (low-second y (x ∷ ms′) ns′ h)
+  module _ (h : i < length A) (k : j < length B) (m : n < length out) {v : ℕ} (e : v ≡ min (getD A i 0) (getD B j 0)) where
+    pub turn-first : getD A i 0 < getD B j 0 → Merging A B before (set out n v) (i + 1) j (n + 1)
+    turn-first l =
+        let q : v ≡ getD A i 0 = omega arith in
+        wrote m (omega arith) (omega arith) (rw (head A i h, head B j k, q) (low-first (getD A i 0) (drop (i + 1) A) _ l))
 
-both : (ms ms′ ns ns′ : List ℕ) (x y : ℕ) → ms ≡ x ∷ ms′ → ns ≡ y ∷ ns′ → x ≡ y → union ms ns ≡ x ∷ union ms′ ns′
-both ms ms′ ns ns′ x y e f h = rw (e, f, ← h) (same-first x ms′ ns′)
+    pub turn-second : getD B j 0 < getD A i 0 → Merging A B before (set out n v) i (j + 1) (n + 1)
+    turn-second l =
+        let q : v ≡ getD B j 0 = omega arith in
+        wrote m (omega arith) (omega arith) (rw (head A i h, head B j k, q) (low-second (getD B j 0) _ (drop (j + 1) B) l))
 
-module _ (A B : List ℕ) (a b : ℕ) (p : Pair A B a b) (i j : ℕ) where
-  abbrev L : ℕ → List ℕ
-  L left = drop (i + left) (take a A)
+    pub turn-both : getD B j 0 ≤ getD A i 0 → getD A i 0 ≤ getD B j 0 → Merging A B before (set out n v) (i + 1) (j + 1) (n + 1)
+    turn-both l p =
+        let q : v ≡ getD A i 0 = omega arith in
+        let s : getD B j 0 ≡ getD A i 0 = omega arith in
+        wrote m (omega arith) (omega arith) (rw (head A i h, head B j k, q, s) (same-first (getD A i 0) (drop (i + 1) A) (drop (j + 1) B)))
 
-  abbrev R : ℕ → List ℕ
-  R right = drop (j + right) (take b B)
+  -- The room ends before the lists do.
+  pub merge-full : i < length A → length out ≤ n → Merged (length before) (n + 1) (union A B) before out
+  merge-full h f =
+      let left : 0 < length (union (drop i A) (drop j B)) = rw (head A i h) (some-union _ _ _) in
+      record { ends = λ l. absurd (omega (arith, g .long)); written = λ l. absurd (omega (arith, g .long)); beyond = λ l. omega (arith, g .all, g .long, g .room) }
 
-  -- A list that does not move on.
-  L-stays : drop i (take a A) ≡ L 0
-  L-stays = ap (λ n. drop n (take a A)) (sym (add-zero i))
+  -- One list has ended, and the rest of the other is copied.
+  rest-copied : {rest : List ℕ} → union (drop i A) (drop j B) ≡ rest → {r : ℕ} {after : List ℕ} → r ≡ n + length rest → (r ≤ length out → after ≡ sets out n rest) → Merged (length before) r (union A B) before after
+  rest-copied e c f = record {
+    ends = λ l. omega (arith, g .all, ap length e);
+    written = λ l. f (omega (arith, g .long)) ∙ sym (g .is ∙ ap (sets out n) e);
+    beyond = λ l. omega (arith, g .all, ap length e);
+  }
 
-  R-stays : drop j (take b B) ≡ R 0
-  R-stays = ap (λ n. drop n (take b B)) (sym (add-zero j))
+  pub first-copied : length B ≤ j → {r : ℕ} {after : List ℕ} → r ≡ n + length (drop i A) → (r ≤ length out → after ≡ sets out n (drop i A)) → Merged (length before) r (union A B) before after
+  first-copied h = rest-copied (ap (union (drop i A)) (drop-of-length-le B h) ∙ none-second (drop i A))
 
-  go-left : (v : ℕ) → i < a → j ≤ b → v ≤ 65535 → union (drop i (take a A)) (drop j (take b B)) ≡ v ∷ union (L 1) (drop j (take b B)) → Next A B a b i j (pick v 1 0)
-  go-left v h k s m = record { first = omega arith; second = omega arith; some = omega arith; small = s; is = m ∙ ap (λ l. v ∷ union (L 1) l) R-stays }
+  pub second-copied : length A ≤ i → {r : ℕ} {after : List ℕ} → r ≡ n + length (drop j B) → (r ≤ length out → after ≡ sets out n (drop j B)) → Merged (length before) r (union A B) before after
+  second-copied h = rest-copied (ap (λ l. union l (drop j B)) (drop-of-length-le A h) ∙ none-first (drop j B))
 
-  go-right : (v : ℕ) → i ≤ a → j < b → v ≤ 65535 → union (drop i (take a A)) (drop j (take b B)) ≡ v ∷ union (drop i (take a A)) (R 1) → Next A B a b i j (pick v 0 1)
-  go-right v h k s m = record { first = omega arith; second = omega arith; some = omega arith; small = s; is = m ∙ ap (λ l. v ∷ union l (R 1)) L-stays }
+-- ---- what a caller has of it
+-- A run of stores in the part of a list from n on.
+sets-front : (n : ℕ) (out : List ℕ) (k : ℕ) (l : List ℕ) → n ≤ k → take n (sets out k l) ≡ take n out
+sets-front n out k [] h = refl
+sets-front n out k (x ∷ l) h = sets-front n (set out k x) (suc k) l (omega arith) ∙ take-set-le n out k x h
 
-  pub next-none-left : {v : ℕ} → i ≤ a → a ≤ i → j < b → v ≤ 65535 → v ≡ getD B j 0 → Next A B a b i j (pick v 0 1)
-  next-none-left {v} h z k s e =
-      go-right v h k s (none-left _ _ _ v (nothing A a i z) (head B b j (p .second) k ∙ ap (λ x. x ∷ R 1) (sym e)))
+sets-behind : (n : ℕ) (out : List ℕ) (i : ℕ) (l : List ℕ) → drop n (sets out (n + i) l) ≡ sets (drop n out) i l
+sets-behind n out i [] = refl
+sets-behind n out i (x ∷ l) =
+    ap (λ k. drop n (sets (set out (n + i) x) k l)) (sym (add-suc n i))
+    ∙ sets-behind n (set out (n + i) x) (suc i) l
+    ∙ ap (λ m. sets m (suc i) l) (drop-set-add n out i x)
 
-  pub next-none-right : {v : ℕ} → i < a → j ≤ b → b ≤ j → v ≤ 65535 → v ≡ getD A i 0 → Next A B a b i j (pick v 1 0)
-  next-none-right {v} h k z s e =
-      go-left v h k s (none-right _ _ _ v (nothing B b j z) (head A a i (p .first) h ∙ ap (λ x. x ∷ L 1) (sym e)))
+-- What `&s[i..]` holds.
+abbrev pub part : List ℕ → ℕ → List ℕ
+part l i = take (length l - i) (drop i l)
 
-  module _ {x y : ℕ} (h : i < a) (k : j < b) (ex : x ≡ getD A i 0) (ey : y ≡ getD B j 0) where
-    of-first : drop i (take a A) ≡ x ∷ L 1
-    of-first = head A a i (p .first) h ∙ ap (λ z. z ∷ L 1) (sym ex)
+pub part-is : (l : List ℕ) (i : ℕ) → part l i ≡ drop i l
+part-is l i = take-all (length l - i) (drop i l) (omega (arith, length-drop i l))
 
-    of-second : drop j (take b B) ≡ y ∷ R 1
-    of-second = head B b j (p .second) k ∙ ap (λ z. z ∷ R 1) (sym ey)
+pub sets-part : (n : ℕ) (out l : List ℕ) → take n out ++ (sets (part out n) 0 l ++ drop (length out - n) (drop n out)) ≡ sets out n l
+sets-part n out l =
+    let none : drop (length out - n) (drop n out) ≡ [] = drop-of-length-le (drop n out) {i = length out - n} (omega (arith, length-drop n out)) in
+    let behind : sets (part out n) 0 l ≡ drop n (sets out n l) = ap (λ m. sets m 0 l) (part-is out n) ∙ sym (sets-behind n out 0 l) ∙ ap (λ k. drop n (sets out k l)) (add-zero n) in
+    ap₂ (λ x y. take n out ++ (x ++ y)) behind none
+    ∙ ap₂ (λ x y. x ++ y) (sym (sets-front n out n l (omega arith))) (append-nil (drop n (sets out n l)))
+    ∙ take-append-drop n (sets out n l)
 
-    pub next-less : x ≤ 65535 → x < y → Next A B a b i j (pick x 1 0)
-    next-less s l = go-left x h (omega arith) s (less _ _ _ _ x y of-first of-second l)
-
-    pub next-more : y ≤ 65535 → y < x → Next A B a b i j (pick y 0 1)
-    next-more s l = go-right y (omega arith) k s (more _ _ _ _ x y of-first of-second l)
-
-    pub next-both : x ≤ 65535 → x ≡ y → Next A B a b i j (pick x 1 1)
-    next-both s l = record { first = omega arith; second = omega arith; some = omega arith; small = s; is = both _ _ _ _ x y of-first of-second l }
-
--- What is picked is what is next.
-pub next-picked : {A B : List ℕ} {a b i j : ℕ} {r q : Pick} → r ≡ q → Next A B a b i j q → Next A B a b i j r
-next-picked {A} {B} {a} {b} {i} {j} e x = subst (Next A B a b i j) (sym e) x
-
-module _ (A B before : List ℕ) (a b : ℕ) (p : Mergeable A B before a b) where
-  pub merge-start : Merging A B a b before 0 0 0
-  merge-start = record { first = omega arith; second = omega arith; long = p .long; is = refl; written = omega arith }
-
-  -- There is room for one more.
-  pub merge-room : (out : List ℕ) (i j n : ℕ) (q : Pick) → Merging A B a b out i j n → Next A B a b i j q → n < 2048
-  merge-room out i j n q g x =
-      let rest = union (drop (i + q .left) (take a A)) (drop (j + q .right) (take b B)) in
-      let e : length (take n out ++ (q .value ∷ rest)) ≡ length (union (take a A) (take b B)) = ap length (ap (λ t. take n out ++ t) (sym (x .is)) ∙ g .is) in
-      omega (arith, length-append (take n out) (q .value ∷ rest), length-take-le n out (omega (arith, g .long, g .written)), p .room, e)
-
-  pub merge-step : (out : List ℕ) (i j n : ℕ) (q : Pick) → Merging A B a b out i j n → Next A B a b i j q → Merging A B a b (set out n (q .value)) (i + q .left) (j + q .right) (n + 1)
-  merge-step out i j n q g x =
-      let m = merge-room out i j n q g x in
-      record {
-        first = x .first;
-        second = x .second;
-        long = length-set out n (q .value) ∙ g .long;
-        is = put out n (q .value) _ (omega (arith, g .long)) ∙ ap (λ t. take n out ++ t) (sym (x .is)) ∙ g .is;
-        written = omega arith;
-      }
-
-  pub merge-done : (out : List ℕ) (i j n : ℕ) → a + b ≤ i + j → Merging A B a b out i j n → Begins out n (union (take a A) (take b B))
-  merge-done out i j n h g =
-      let e : take n out ≡ union (take a A) (take b B) =
-      sym (append-nil (take n out))
-      ∙ ap (λ t. take n out ++ t) (sym (ap₂ union (nothing A a i (omega (arith, g .first, g .second))) (nothing B b j (omega (arith, g .first, g .second))) ∙ none-first [])) ∙ g .is in
-      record { all = sym (length-take-le n out (omega (arith, g .long, g .written))) ∙ ap length e; list = e }
+-- The whole, where a merge was into its part from n on.
+pub merged-part : (n : ℕ) (out : List ℕ) {r : ℕ} {l after : List ℕ} → Merged (length (part out n)) r l (part out n) after → r ≤ length out - n
+    → take n out ++ (after ++ drop (length out - n) (drop n out)) ≡ sets out n l
+merged-part n out {r} {l} {after} w h =
+    ap (λ m. take n out ++ (m ++ drop (length out - n) (drop n out))) (w .written (omega (arith, ap length (part-is out n), length-drop n out))) ∙ sets-part n out l

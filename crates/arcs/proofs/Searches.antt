@@ -147,7 +147,7 @@ first-zero [] e = absurd (omega arith)
 first-zero (x ∷ xs) e = refl
 
 module _ (rows table : List ℕ) (k i : ℕ) (side : Side) where
-  at-action : tag-at rows k ≡ 1 → (count n : ℕ) (E : Expr) → In rows table count k i n E → Lies (own side) (box side i n E) (0 ∷ [])
+  pub at-action : tag-at rows k ≡ 1 → (count n : ℕ) (E : Expr) → In rows table count k i n E → Lies (own side) (box side i n E) (0 ∷ [])
   unfolding actions
   at-action t count n (action l) h = own-place side i n l (omega (arith, h .low, h .high))
   at-action t count n (sequence E F) h = absurd (omega (arith, tag-is rows table count (sequence E F) (h .here)))

@@ -1,16 +1,16 @@
--- The whole: from the tables of an expression to what the search asks, and from the positions that it finds to the arcs of one action, of two, of an item.
+-- The whole: from the tables of an expression to what the search asks, and from the positions that it finds to the arcs of one action; and the actions of an item.
 -- The entries come first among the places, then the internals, then the exits, so a list's positions are shifted by the lengths of those before it.
 use Prim.Native.Nat.{ℕ, _*_, _≤_}
 use native.Mathlib.Omega.{arith}
-use mathlib.Core.Path.{_≡_, refl, sym, _∙_, ap, ap₂, subst}
+use mathlib.Core.Path.{_≡_, refl, sym, _∙_, ap}
 use mathlib.Core.Bool.{Bool}
 use mathlib.Core.List.{List, _++_, map, map-append, append-nil}
 use lib.ListN.{length, take, length-map, length-take}
 use borrow.Author.Tests.{eq-eqb, ne-eqb}
 use Rattle.algebra.specs.Expr.{Expr}
-use Rattle.algebra.specs.Item.{Item, one, two}
+use Rattle.algebra.specs.Item.{one, two}
 use Rattle.algebra.specs.Places.{Place, entries, internals, exits, places}
-use Rattle.algebra.specs.Arcs.{numbers, by-item}
+use Rattle.algebra.specs.Arcs.{numbers}
 use Rattle.algebra.proofs.Lengths.{places-length}
 use Rattle.plan.specs.Table.{Stands, values}
 use Rattle.plan.proofs.Stands.{stands-take}
@@ -21,7 +21,6 @@ use Rattle.arcs.specs.Positions.{ones, stretched, repeated}
 use Rattle.arcs.specs.Moves.{passes, box, Lies, moved, base}
 use Rattle.arcs.specs.Widen.{Became, Stretchable}
 use Rattle.arcs.specs.Search.{counts-at, In, Asks, Found}
-use Rattle.arcs.specs.Merge.{union, Mergeable}
 use Rattle.arcs.specs.Asked.{Of, Asked, Begins}
 use Rattle.arcs.specs.declared.moves.Side.{Side}
 use Rattle.arcs.specs.declared.moves.Kind.{Kind}
@@ -31,7 +30,6 @@ use Rattle.arcs.proofs.Ones.{numbers-ones, ones-before, ones-few, off-a
 use Rattle.arcs.proofs.Levels.{lengths, as-itself, behind, behind-two}
 use Rattle.arcs.proofs.Sizes.{sizes, box-lengths, counts-here}
 use Rattle.arcs.proofs.Searches.{ones-fit}
-use Rattle.arcs.proofs.Merges.{union-numbers}
 
 -- ---- from the positions in one list to the numbers among all places
 shifted-ones : (off : ℕ) (cs : List Bool) (ps : List ℕ) → ones 0 cs ≡ ps → ones off cs ≡ stretched 1 off ps
@@ -62,7 +60,7 @@ numbers-few f ps = omega (arith, ap length (numbers-ones f 0 ps), ones-few 0 (ma
 
 -- ---- one action
 module _ (rows : List ℕ) (nodes : ℕ) (counts : List ℕ) (i : ℕ) where
-  counted-all : (E : Expr) → take (3 * nodes) counts ≡ node-counts E → Stands counts (3 * 0) (values counts-of E)
+  pub counted-all : (E : Expr) → take (3 * nodes) counts ≡ node-counts E → Stands counts (3 * 0) (values counts-of E)
   unfolding node-counts
   counted-all E e = stands-take counts (3 * nodes) (values counts-of E) e
 
@@ -98,54 +96,22 @@ module _ (rows : List ℕ) (nodes : ℕ) (counts : List ℕ) (i : ℕ) where
         → Begins after r (numbers (passes side i) 0 (places 0 E))
     action-arcs after r w E o = let q = found-arcs E o in record { all = w .all ∙ ap length (sym q); list = w .list ∙ sym q }
 
--- ---- two actions
 pub begins-within : {out : List ℕ} {r : ℕ} {l : List ℕ} → Begins out r l → r ≤ length out
 begins-within {out} {r} {l} b = omega (arith, length-take r out, ap length (b .list), b .all)
 
-module _ (rows : List ℕ) (nodes : ℕ) (counts : List ℕ) (i j : ℕ) where
-  abbrev Both : Item
-  Both = two i j
+-- ---- two actions
+module _ {rows : List ℕ} {nodes : ℕ} {counts : List ℕ} {i j : ℕ} where
+  pub of-first : {E : Expr} → Of rows nodes counts (two i j) E → Of rows nodes counts (one i) E
+  of-first o = record { table = o .table; counted = o .counted; few = o .few; acts = o .acts .0 }
 
-  of-first : (E : Expr) → Of rows nodes counts Both E → Of rows nodes counts (one i) E
-  of-first E o = record { table = o .table; counted = o .counted; few = o .few; acts = o .acts .0 }
+  pub of-second : {E : Expr} → Of rows nodes counts (two i j) E → Of rows nodes counts (one j) E
+  of-second o = record { table = o .table; counted = o .counted; few = o .few; acts = o .acts .1 }
 
-  of-second : (E : Expr) → Of rows nodes counts Both E → Of rows nodes counts (one j) E
-  of-second E o = record { table = o .table; counted = o .counted; few = o .few; acts = o .acts .1 }
+  pub asked-first : Asked rows nodes counts (two i j) → Asked rows nodes counts (one i)
+  asked-first a = record { E = a .E; of = of-first (a .of) }
 
-  pub asked-first : Asked rows nodes counts Both → Asked rows nodes counts (one i)
-  asked-first a = record { E = a .E; of = of-first (a .E) (a .of) }
-
-  pub asked-second : Asked rows nodes counts Both → Asked rows nodes counts (one j)
-  asked-second a = record { E = a .E; of = of-second (a .E) (a .of) }
-
-  -- The places of one action, as an array has them for every expression of the tables.
-  abbrev Arcs : Side → ℕ → List ℕ → ℕ → Type 0
-  Arcs side k out r = (E : Expr) → Of rows nodes counts (one k) E → Begins out r (numbers (passes side k) 0 (places 0 E))
-
-  module _ (side : Side) (A B : List ℕ) (a b : ℕ) (first : Arcs side i A a) (second : Arcs side j B b) where
-    union-is : (E : Expr) → Of rows nodes counts Both E → union (take a A) (take b B) ≡ numbers (by-item (passes side) Both) 0 (places 0 E)
-    union-is E o =
-        ap₂ union (first E (of-first E o) .list) (second E (of-second E o) .list) ∙ union-numbers (passes side i) (passes side j) 0 (places 0 E)
-
-    pub mergeable : (out : List ℕ) → length out ≡ 2048 → Asked rows nodes counts Both → Mergeable A B out a b
-    mergeable out long q =
-        let p = first (q .E) (of-first (q .E) (q .of)) in
-        let s = second (q .E) (of-second (q .E) (q .of)) in
-        let few = q .of .few in
-        record {
-          pair = record {
-            first = begins-within p;
-            second = begins-within s;
-            most-first = omega (arith, p .all, numbers-few (passes side i) (places 0 (q .E)));
-            most-second = omega (arith, s .all, numbers-few (passes side j) (places 0 (q .E)));
-          };
-          long = long;
-          room = omega (arith, ap length (union-is (q .E) (q .of)), numbers-few (by-item (passes side) Both) (places 0 (q .E)));
-        }
-
-    pub two-arcs : (out : List ℕ) (r : ℕ) → Begins out r (union (take a A) (take b B)) → (E : Expr) → Of rows nodes counts Both E
-        → Begins out r (numbers (by-item (passes side) Both) 0 (places 0 E))
-    two-arcs out r w E o = subst (Begins out r) (union-is E o) w
+  pub asked-second : Asked rows nodes counts (two i j) → Asked rows nodes counts (one j)
+  asked-second a = record { E = a .E; of = of-second (a .of) }
 
 -- ---- an item
 pub item-of-one : (i j : ℕ) → j ≡ none → item-of i j ≡ one i
@@ -153,11 +119,3 @@ item-of-one i j e = rw (eq-eqb j none e) refl
 
 pub item-of-two : (i j : ℕ) → (j ≡ none → ⊥) → item-of i j ≡ two i j
 item-of-two i j e = rw (ne-eqb j none e) refl
-
-module _ (rows : List ℕ) (nodes : ℕ) (counts : List ℕ) (side : Side) (out : List ℕ) (r : ℕ) where
-  -- The places of an item.
-  abbrev pub ItemArcs : Item → Type 0
-  ItemArcs item = (E : Expr) → Of rows nodes counts item E → Begins out r (numbers (by-item (passes side) item) 0 (places 0 E))
-
-  pub as-item : {item other : Item} → item ≡ other → ItemArcs other → ItemArcs item
-  as-item e h = subst ItemArcs (sym e) h

@@ -1,70 +1,62 @@
 // Two rising lists made one: the numbers of both, in order, and a number of both once.
-use plan::exclusive::wide;
 ghost use mathlib.Core.Path.{_≡_};
-ghost use Prim.Native.Nat.{_+_, _≤_, _<_};
-ghost use lib.ListN.{take};
-ghost use Rattle.arcs.specs.Asked.{Begins};
-ghost use Rattle.arcs.specs.Merge.{union, pick, Pair, Mergeable, Next};
+ghost use Prim.Native.Nat.{_+_, _≤_, min};
+ghost use lib.ListN.{length, drop};
+ghost use lib.Seq.{sets};
+ghost use Rattle.arcs.specs.Merge.{union, Merged};
 
-// The next number of two rising lists, and how far each moves on.
-pub struct Pick {
-    pub value: usize,
-    pub left: usize,
-    pub right: usize,
-}
-
-fn picked(value: usize, left: usize, right: usize) -> Pick
-    ensures { λ r. ⌜ r ≡ pick value left right ⌝ }
+fn lesser(x: u16, y: u16) -> u16
+    ensures { λ r. ⌜ r ≡ min x y ⌝ }
 {
-    Pick {
-        value: value,
-        left: left,
-        right: right,
-    }
+    if x < y { x } else { y }
 }
 
-// The lesser of the numbers that are next in the two lists; where they are the same, both lists move on.
-fn next(first: &[u16; 2048], a: usize, second: &[u16; 2048], b: usize, i: usize, j: usize) -> Pick
-    requires { ⌜ Pair (now first) (now second) a b × (i ≤ a) × (j ≤ b) × (i + j < a + b) ⌝ }
-    ensures { λ r. ⌜ Next (now (first .entry)) (now (second .entry)) a b i j r ⌝ }
+// The list from `from` on, written from `at` on, where there is room for all of it. Answers where it ends.
+fn copy_rest(list: &[u16], from: usize, out: &mut [u16], at: usize) -> usize
+    requires { ⌜ (from ≤ length (now list)) × (at ≤ length (now out)) ⌝ }
+    ensures { λ r. ⌜ (r ≡ at + length (drop from (now (list .entry)))) × (r ≤ length (now (out .entry)) → now (out .exit) ≡ sets (now (out .entry)) at (drop from (now (list .entry)))) ⌝ }
 {
-    if a <= i {
-        return picked(wide(second[j]), 0, 1);
+    let end = at + (list.len() - from);
+    if out.len() < end {
+        return end;
     }
-    let x = wide(first[i]);
-    if b <= j {
-        return picked(x, 1, 0);
+    let mut i = from;
+    let mut n = at;
+    while n < end {
+        out[n] = list[i];
+        i += 1;
+        n += 1;
     }
-    let y = wide(second[j]);
-    if x < y {
-        return picked(x, 1, 0);
-    }
-    if y < x {
-        return picked(y, 0, 1);
-    }
-    picked(x, 1, 1)
+    end
 }
 
-// The first `a` numbers of one array and the first `b` of another, merged into a third.
-pub fn merge(
-    first: &[u16; 2048],
-    a: usize,
-    second: &[u16; 2048],
-    b: usize,
-    out: &mut [u16; 2048],
-) -> usize
-    requires { ⌜ Mergeable (now first) (now second) (now out) a b ⌝ }
-    ensures { λ r. ⌜ Begins (now (out .exit)) r (union (take a (now (first .entry))) (take b (now (second .entry)))) ⌝ }
+// Two rising lists made one, in front of `out`. Answers how many numbers that are; where they are more than `out` holds, a number above
+// its length. The lesser of the two next numbers is written while both lists have one, and then what is left of the other list.
+pub fn merge(first: &[u16], second: &[u16], out: &mut [u16]) -> usize
+    ensures { λ r. ⌜ Merged (length (now (out .entry))) r (union (now (first .entry)) (now (second .entry))) (now (out .entry)) (now (out .exit)) ⌝ }
 {
     let mut i = 0;
     let mut j = 0;
     let mut n = 0;
-    while i + j < a + b {
-        let r = next(first, a, second, b, i, j);
-        out[n] = r.value as u16;
-        i += r.left;
-        j += r.right;
+    while i < first.len() {
+        if second.len() <= j {
+            return copy_rest(first, i, out, n);
+        }
+        if out.len() <= n {
+            return n + 1;
+        }
+        let x = first[i];
+        let y = second[j];
+        out[n] = lesser(x, y);
         n += 1;
+        if x < y {
+            i += 1;
+        } else if y < x {
+            j += 1;
+        } else {
+            i += 1;
+            j += 1;
+        }
     }
-    n
+    copy_rest(second, j, out, n)
 }

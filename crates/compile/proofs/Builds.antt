@@ -218,6 +218,7 @@ is-ready plan nodes many table table′ counts counts′ list′ long r s w e =
               nodes-of = record { nodes = ns; rows-of = ap (take (6 * nodes)) (w .0) ∙ take-at (node-table E) (drop (6 * node-count E) table) (6 * nodes) (table-length E ∙ ap (λ n. 6 * n) (sym ns)) };
               counted = ap (take (3 * nodes)) (w .1) ∙ counted-in-front E nodes (drop (3 * node-count E) counts) ns;
               few = a .places-few;
+              few-actions = low;
               acts = λ t h.
                   let m = listed-member list′ 0 many t (omega arith) (omega arith) in
                   acts-in E (item-at list′ t) (items-in-range 0 E (listed-at list′ t) (subst (List·Memᴰ (listed-at list′ t)) listed m));

@@ -2,123 +2,113 @@
 -- True because stores one behind another are one store of the lists joined, and a transition's arcs end where those of the next one start.
 use Prim.Native.Nat.{ℕ, zero, suc, _+_, _-_, _*_, _≤_, _<_}
 use native.Mathlib.Omega.{arith}
-use mathlib.Core.Path.{_≡_, refl, sym, _∙_, ap, ap₂, subst}
+use mathlib.Core.Path.{_≡_, refl, sym, _∙_, ap, subst}
 use mathlib.Core.Bool.{Bool, true, false}
-use mathlib.Core.List.{List, [], _∷_, _++_, append-nil, append-assoc}
-use lib.ListN.{length, getD, take, length-append}
+use mathlib.Core.List.{List, [], _∷_, _++_, map, append-nil, append-assoc}
+use lib.ListN.{length, getD, take, drop, length-append, length-drop}
 use lib.Seq.{sets}
 use lib.Dec.{eqb}
 use borrow.Author.Tests.{eqb-true}
-use Rattle.algebra.specs.Expr.{Expr}
 use Rattle.algebra.specs.Item.{Item, first}
 use Rattle.algebra.specs.Net.{Transition}
-use Rattle.algebra.specs.Places.{places}
 use Rattle.algebra.specs.Transitions.{Labelled}
-use Rattle.algebra.specs.Arcs.{numbers, by-item, consumes, produces, transition-of}
 use Rattle.net.specs.Tables.{none, second, item-of, rows-from, arcs-from}
-use Rattle.arcs.specs.Asked.{Of, Asked, Begins}
-use Rattle.arcs.specs.Moves.{passes}
-use Rattle.arcs.specs.declared.moves.Side.{Side}
-use Rattle.arcs.proofs.Transitions.{numbers-few, begins-within}
-use Rattle.compile.specs.Rows.{item-at, listed-at, listed-from, Put, PutArcs, PutSide, OfAll, AskedAll, made}
+use Rattle.arcs.specs.Merge.{Merged}
+use Rattle.arcs.proofs.Merges.{part, part-is, merged-part}
+use Rattle.compile.specs.Rows.{item-at, listed-at, listed-from, Put, PutArcs, PutSide}
 use Rattle.compile.proofs.Runs.{sets-both}
 
 -- ---- one side of a transition
-module _ (table : List ℕ) (nodes : ℕ) (counts : List ℕ) (item : Item) (side : Side) (out : List ℕ) (r : ℕ)
-    (found : (E : Expr) → Of table nodes counts item E → Begins out r (numbers (by-item (passes side) item) 0 (places 0 E))) where
-  pub side-few : Asked table nodes counts item → (r ≤ 2048) × (r ≤ length out)
-  side-few q =
-      let b = found (q .E) (q .of) in
-      (omega (arith, b .all, numbers-few (by-item (passes side) item) (places 0 (q .E)), q .of .few), begins-within b)
+pub one-put : {limit end at : ℕ} {places arcs arcs′ : List ℕ} → end ≡ at + length places → (end ≤ limit → arcs′ ≡ sets arcs at places) → PutSide limit end at places arcs arcs′
+one-put e f = record { ends = λ _. e; written = f; beyond = λ h. omega arith }
 
-  pub side-put : {limit at end : ℕ} {arcs arcs′ : List ℕ} → end ≡ at + r → (end ≤ limit → arcs′ ≡ sets arcs at (take r out)) → (E : Expr) → Of table nodes counts item E
-      → PutSide limit end at (numbers (by-item (passes side) item) 0 (places 0 E)) arcs arcs′
-  side-put {at = at} {arcs = arcs} e f E o =
-      let b = found E o in
-      record { ends = e ∙ ap (λ n. at + n) (b .all); written = λ h. f h ∙ ap (sets arcs at) (b .list) }
+pub same-places : {limit end at : ℕ} {places others arcs arcs′ : List ℕ} → places ≡ others → PutSide limit end at places arcs arcs′ → PutSide limit end at others arcs arcs′
+same-places {limit} {end} {at} {arcs = arcs} {arcs′} e p = subst (λ l. PutSide limit end at l arcs arcs′) e p
+
+module _ (arcs : List ℕ) (at : ℕ) (in-arcs : at ≤ length arcs) {count : ℕ} {l after : List ℕ} (m : Merged (length (part arcs at)) count l (part arcs at) after) where
+  room-is : length (part arcs at) ≡ length arcs - at
+  room-is = ap length (part-is arcs at) ∙ length-drop at arcs
+
+  pub two-put : count ≤ length arcs - at → PutSide (length arcs) (at + count) at l arcs (take at arcs ++ (after ++ drop (length arcs - at) (drop at arcs)))
+  two-put h = record { ends = λ _. ap (λ n. at + n) (m .ends (omega (arith, room-is))); written = λ _. merged-part at arcs m h; beyond = λ b. absurd (omega arith) }
+
+  pub two-over : {end : ℕ} {arcs′ : List ℕ} → length arcs - at < count → length arcs < end → PutSide (length arcs) end at l arcs arcs′
+  two-over h e = record { ends = λ b. absurd (omega arith); written = λ b. absurd (omega arith); beyond = λ _. omega (arith, room-is, m .beyond (omega (arith, room-is))) }
 
 -- ---- both sides
 module _ {limit middle at : ℕ} {inputs outputs arcs arcs₁ : List ℕ} (p : PutSide limit middle at inputs arcs arcs₁) where
   pub first-over : limit < middle → PutArcs limit middle middle at inputs outputs arcs arcs₁
-  first-over h = record { half = λ l. absurd (omega arith); whole = λ l. absurd (omega arith); written = λ l. absurd (omega arith); beyond = λ _. omega (arith, p .ends) }
+  first-over h = record { half = λ l. absurd (omega arith); whole = λ l. absurd (omega arith); written = λ l. absurd (omega arith); beyond = λ _. omega (arith, p .beyond h) }
 
   pub both-put : {room end : ℕ} {arcs₂ : List ℕ} → middle ≤ limit → room ≡ limit → PutSide room end middle outputs arcs₁ arcs₂ → PutArcs limit middle end at inputs outputs arcs arcs₂
   both-put h e q = record {
-    half = λ _. p .ends;
-    whole = λ _. q .ends;
-    written = λ l. q .written (omega arith) ∙ ap (λ a. sets a middle outputs) (p .written h) ∙ sets-both inputs outputs arcs at middle (p .ends);
-    beyond = λ l. omega (arith, p .ends, q .ends);
+    half = λ _. p .ends h;
+    whole = λ l. q .ends (omega arith);
+    written = λ l. q .written (omega arith) ∙ ap (λ a. sets a middle outputs) (p .written h) ∙ sets-both inputs outputs arcs at middle (p .ends h);
+    beyond = λ l. omega (arith, p .ends h, q .beyond (omega arith));
   }
 
+pub arcs-in-turn : {limit middle end at : ℕ} {inputs outputs arcs arcs′ : List ℕ} → PutArcs limit middle end at inputs outputs arcs arcs′ → end ≤ limit → (at ≤ middle) × (middle ≤ end)
+arcs-in-turn p h = (omega (arith, p .half h), omega (arith, p .whole h))
+
 -- ---- one transition
-first-of : (i j : ℕ) → first (item-of i j) ≡ i
+pub first-of : (i j : ℕ) → first (item-of i j) ≡ i
 first-of i j = go (eqb j none) refl
   where
     go : (b : Bool) → eqb j none ≡ b → first (item-of i j) ≡ i
     go true e = rw e refl
     go false e = rw e refl
 
-second-of : (i j : ℕ) → second (item-of i j) ≡ j
+pub second-of : (i j : ℕ) → second (item-of i j) ≡ j
 second-of i j = go (eqb j none) refl
   where
     go : (b : Bool) → eqb j none ≡ b → second (item-of i j) ≡ j
     go true e = rw e (sym (eqb-true j none e))
     go false e = rw e refl
 
-module _ (limit : ℕ) (list : List ℕ) (t at middle end : ℕ) (E : Expr) where
-  abbrev T : Transition
-  T = transition-of (places 0 E) (listed-at list t)
+arcs-of-one : (T : Transition) → arcs-from (T ∷ []) ≡ T .inputs ++ T .outputs
+unfolding arcs-from
+arcs-of-one T = ap (λ l. T .inputs ++ l) (append-nil (T .outputs))
 
-  abbrev Both : List ℕ → List ℕ → Type 0
-  Both arcs arcs′ = PutArcs limit middle end at (numbers (by-item consumes (item-at list t)) 0 (places 0 E)) (numbers (by-item produces (item-at list t)) 0 (places 0 E)) arcs arcs′
+one-length : (T : Transition) → length (arcs-from (T ∷ [])) ≡ length (T .inputs) + length (T .outputs)
+one-length T = ap length (arcs-of-one T) ∙ length-append (T .inputs) (T .outputs)
 
-  arcs-of-one : arcs-from (T ∷ []) ≡ T .inputs ++ T .outputs
-  unfolding arcs-from
-  arcs-of-one = ap (λ l. T .inputs ++ l) (append-nil (T .outputs))
+module _ (list : List ℕ) (t at : ℕ) (ins outs : List ℕ) where
+  abbrev with-arcs : Transition
+  with-arcs = record { label = getD list (3 * t) 0; item = item-at list t; inputs = ins; outputs = outs }
 
-  one-length : length (arcs-from (T ∷ [])) ≡ length (T .inputs) + length (T .outputs)
-  one-length = ap length arcs-of-one ∙ length-append (T .inputs) (T .outputs)
-
-  row-is : {m n : ℕ} → m ≡ length (T .inputs) → n ≡ length (T .outputs)
-      → (getD list (3 * t) 0 ∷ (getD list (3 * t + 1) 0 ∷ (getD list (3 * t + 2) 0 ∷ (at ∷ (m ∷ (n ∷ [])))))) ≡ rows-from at (T ∷ [])
-  unfolding rows-from transition-of
+  row-is : {m n : ℕ} → m ≡ length ins → n ≡ length outs
+      → (getD list (3 * t) 0 ∷ (getD list (3 * t + 1) 0 ∷ (getD list (3 * t + 2) 0 ∷ (at ∷ (m ∷ (n ∷ [])))))) ≡ rows-from at (with-arcs ∷ [])
+  unfolding rows-from
   row-is a b =
       let f = sym (first-of (getD list (3 * t + 1) 0) (getD list (3 * t + 2) 0)) in
       let g = sym (second-of (getD list (3 * t + 1) 0) (getD list (3 * t + 2) 0)) in
       λ k. getD list (3 * t) 0 ∷ (f k ∷ (g k ∷ (at ∷ (a k ∷ (b k ∷ [])))))
 
-  pub transition-put : {rows rows′ arcs arcs′ : List ℕ} {inputs outputs : ℕ} → Both arcs arcs′ → end ≤ limit → inputs ≡ middle - at → outputs ≡ end - middle
-      → rows′ ≡ sets rows (6 * t) (getD list (3 * t) 0 ∷ (getD list (3 * t + 1) 0 ∷ (getD list (3 * t + 2) 0 ∷ (at ∷ (inputs ∷ (outputs ∷ []))))))
-      → Put limit end t at (T ∷ []) rows rows′ arcs arcs′
-  unfolding transition-of
-  transition-put {rows} {arcs = arcs} {inputs = inputs} {outputs} p h ei eo e =
-      let li : inputs ≡ length (T .inputs) = omega (arith, p .half h) in
-      let lo : outputs ≡ length (T .outputs) = omega (arith, p .half h, p .whole h) in
-      record {
-        ends = λ _. omega (arith, p .half h, p .whole h, one-length);
-        in-rows = λ _. e ∙ ap (sets rows (6 * t)) (row-is li lo);
-        in-arcs = λ _. p .written h ∙ ap (sets arcs at) (sym arcs-of-one);
-        beyond = λ l. absurd (omega arith);
-      }
+  module _ {limit middle end : ℕ} {arcs arcs′ : List ℕ} (p : PutArcs limit middle end at ins outs arcs arcs′) where
+    abbrev T : Transition
+    T = with-arcs
 
-  pub transition-over : {rows rows′ arcs arcs′ : List ℕ} → Both arcs arcs′ → limit < end → Put limit end t at (T ∷ []) rows rows′ arcs arcs′
-  unfolding transition-of
-  transition-over p h = record {
-    ends = λ l. absurd (omega arith);
-    in-rows = λ l. absurd (omega arith);
-    in-arcs = λ l. absurd (omega arith);
-    beyond = λ _. omega (arith, p .beyond h, one-length);
-  }
+    pub transition-put : {rows rows′ : List ℕ} {inputs outputs : ℕ} → end ≤ limit → inputs ≡ middle - at → outputs ≡ end - middle
+        → rows′ ≡ sets rows (6 * t) (getD list (3 * t) 0 ∷ (getD list (3 * t + 1) 0 ∷ (getD list (3 * t + 2) 0 ∷ (at ∷ (inputs ∷ (outputs ∷ []))))))
+        → Put limit end t at (T ∷ []) rows rows′ arcs arcs′
+    transition-put {rows} {inputs = inputs} {outputs} h ei eo e =
+        let li : inputs ≡ length ins = omega (arith, p .half h) in
+        let lo : outputs ≡ length outs = omega (arith, p .half h, p .whole h) in
+        record {
+          ends = λ _. omega (arith, p .half h, p .whole h, one-length T);
+          in-rows = λ _. e ∙ ap (sets rows (6 * t)) (row-is li lo);
+          in-arcs = λ _. p .written h ∙ ap (sets arcs at) (sym (arcs-of-one T));
+          beyond = λ l. absurd (omega arith);
+        }
 
--- What is told of the arcs, of the item that the two actions read from the list make.
-module _ (table : List ℕ) (nodes : ℕ) (counts : List ℕ) {item : Item} {limit middle end at : ℕ} {arcs arcs′ : List ℕ}
-    (told : (E : Expr) → Of table nodes counts item E → PutArcs limit middle end at (numbers (by-item consumes item) 0 (places 0 E)) (numbers (by-item produces item) 0 (places 0 E)) arcs arcs′)
-    {other : Item} (same : item ≡ other) where
-  pub arcs-of-listed : (E : Expr) → Of table nodes counts other E → PutArcs limit middle end at (numbers (by-item consumes other) 0 (places 0 E)) (numbers (by-item produces other) 0 (places 0 E)) arcs arcs′
-  arcs-of-listed E o = rw same at (told E (subst (λ x. Of table nodes counts x E) (sym same) o))
-
-  pub arcs-in-turn : Asked table nodes counts other → end ≤ limit → (at ≤ middle) × (middle ≤ end)
-  arcs-in-turn q h = let p = arcs-of-listed (q .E) (q .of) in (omega (arith, p .half h), omega (arith, p .whole h))
+    pub transition-over : {rows rows′ : List ℕ} → limit < end → Put limit end t at (T ∷ []) rows rows′ arcs arcs′
+    transition-over h = record {
+      ends = λ l. absurd (omega arith);
+      in-rows = λ l. absurd (omega arith);
+      in-arcs = λ l. absurd (omega arith);
+      beyond = λ _. omega (arith, p .beyond h, one-length T);
+    }
 
 -- ---- all of them
 pub none-put : (limit t at : ℕ) (rows arcs : List ℕ) → at ≤ limit → Put limit at t at [] rows rows arcs arcs
@@ -133,14 +123,10 @@ module _ {limit r t at : ℕ} {T : Transition} {rows rows₁ arcs arcs₁ : List
   arcs-length : length (arcs-from (T ∷ ts)) ≡ length (arcs-from (T ∷ [])) + length (arcs-from ts)
   arcs-length = ap length arcs-first ∙ length-append (arcs-from (T ∷ [])) (arcs-from ts)
 
-  one-length-of : length (arcs-from (T ∷ [])) ≡ length (T .inputs) + length (T .outputs)
-  unfolding arcs-from
-  one-length-of = ap length (ap (λ l. T .inputs ++ l) (append-nil (T .outputs))) ∙ length-append (T .inputs) (T .outputs)
-
   rows-first : r ≤ limit → rows-from at (T ∷ ts) ≡ rows-from at (T ∷ []) ++ rows-from r ts
   unfolding rows-from
   rows-first h =
-      let e : at + (length (T .inputs) + length (T .outputs)) ≡ r = omega (arith, p .ends h, one-length-of) in
+      let e : at + (length (T .inputs) + length (T .outputs)) ≡ r = omega (arith, p .ends h, one-length T) in
       ap (λ n. T .label ∷ (first (T .item) ∷ (second (T .item) ∷ (at ∷ (length (T .inputs) ∷ (length (T .outputs) ∷ rows-from n ts)))))) e
 
   rows-length-of : length (rows-from at (T ∷ [])) ≡ 6
@@ -180,37 +166,29 @@ unfolding listed-from
 listed-none list t many h = let e : many - t ≡ 0 = omega arith in ap (listed-from list t) e
 
 -- Before transition t: whatever puts the rest from here puts all of them.
-abbrev pub Puts : List ℕ → ℕ → List ℕ → List ℕ → ℕ → ℕ → ℕ → ℕ → List ℕ → List ℕ → List ℕ → List ℕ → Type 0
-Puts table nodes counts list many limit t at rows₀ rows arcs₀ arcs = (E : Expr) → OfAll table nodes counts list many E → (r : ℕ) (rows′ arcs′ : List ℕ)
-    → Put limit r t at (made E (listed-from list t (many - t))) rows rows′ arcs arcs′ → Put limit r 0 0 (made E (listed-from list 0 many)) rows₀ rows′ arcs₀ arcs′
+module _ (f : Labelled → Transition) (list : List ℕ) (many limit : ℕ) where
+  abbrev pub Puts : ℕ → ℕ → List ℕ → List ℕ → List ℕ → List ℕ → Type 0
+  Puts t at rows₀ rows arcs₀ arcs = (r : ℕ) (rows′ arcs′ : List ℕ)
+      → Put limit r t at (map f (listed-from list t (many - t))) rows rows′ arcs arcs′ → Put limit r 0 0 (map f (listed-from list 0 many)) rows₀ rows′ arcs₀ arcs′
 
--- What one transition puts.
-abbrev pub PutsOne : List ℕ → ℕ → List ℕ → List ℕ → ℕ → ℕ → ℕ → ℕ → List ℕ → List ℕ → List ℕ → List ℕ → Type 0
-PutsOne table nodes counts list limit r t at rows rows₁ arcs arcs₁ = (E : Expr) → Of table nodes counts (item-at list t) E
-    → Put limit r t at (transition-of (places 0 E) (listed-at list t) ∷ []) rows rows₁ arcs arcs₁
+  pub none-turned : (rows arcs : List ℕ) → Puts 0 0 rows rows arcs arcs
+  none-turned rows arcs r rows′ arcs′ p = let e : many - 0 ≡ many = omega arith in subst (λ n. Put limit r 0 0 (map f (listed-from list 0 n)) rows rows′ arcs arcs′) e p
 
-module _ (table : List ℕ) (nodes : ℕ) (counts list : List ℕ) (many : ℕ) where
-  pub of-one : (t : ℕ) → t < many → (E : Expr) → OfAll table nodes counts list many E → Of table nodes counts (item-at list t) E
-  of-one t h E o = record { table = o .nodes-of; counted = o .counted; few = o .few; acts = o .acts t h }
+  module _ (t at : ℕ) (rows₀ rows arcs₀ arcs : List ℕ) (inv : Puts t at rows₀ rows arcs₀ arcs) where
+    -- what transition t puts
+    abbrev One : ℕ → ℕ → List ℕ → List ℕ → Type 0
+    One room r rows₁ arcs₁ = Put room r t at (f (listed-at list t) ∷ []) rows rows₁ arcs arcs₁
 
-  pub asked-one : (t : ℕ) → t < many → AskedAll table nodes counts list many → Asked table nodes counts (item-at list t)
-  asked-one t h q = record { E = q .E; of = of-one t h (q .E) (q .of) }
+    next-made : t < many → map f (listed-from list t (many - t)) ≡ f (listed-at list t) ∷ map f (listed-from list (t + 1) (many - (t + 1)))
+    next-made h = ap (map f) (listed-next list t many h)
 
-  pub none-turned : (limit : ℕ) (rows arcs : List ℕ) → Puts table nodes counts list many limit 0 0 rows rows arcs arcs
-  none-turned limit rows arcs E o r rows′ arcs′ p = let e : many - 0 ≡ many = omega arith in subst (λ n. Put limit r 0 0 (made E (listed-from list 0 n)) rows rows′ arcs arcs′) e p
+    pub turn : {room r : ℕ} {rows₁ arcs₁ : List ℕ} → t < many → room ≡ limit → One room r rows₁ arcs₁ → r ≤ limit → Puts (t + 1) r rows₀ rows₁ arcs₀ arcs₁
+    turn {r = r} {rows₁} {arcs₁} h e one l r′ rows′ arcs′ q =
+        inv r′ rows′ arcs′ (rw (next-made h) (then-put (subst (λ n. One n r rows₁ arcs₁) e one) (map f (listed-from list (t + 1) (many - (t + 1)))) l q))
 
-  module _ (limit t at : ℕ) (rows₀ rows arcs₀ arcs : List ℕ) (inv : Puts table nodes counts list many limit t at rows₀ rows arcs₀ arcs) where
-    made-next : (E : Expr) → t < many → made E (listed-from list t (many - t)) ≡ transition-of (places 0 E) (listed-at list t) ∷ made E (listed-from list (t + 1) (many - (t + 1)))
-    made-next E h = ap (made E) (listed-next list t many h)
+    pub turn-over : {room r : ℕ} {rows₁ arcs₁ : List ℕ} → t < many → room ≡ limit → One room r rows₁ arcs₁ → limit < r → Put limit r 0 0 (map f (listed-from list 0 many)) rows₀ rows₁ arcs₀ arcs₁
+    turn-over {r = r} {rows₁} {arcs₁} h e one l =
+        inv r rows₁ arcs₁ (rw (next-made h) (over-put (subst (λ n. One n r rows₁ arcs₁) e one) (map f (listed-from list (t + 1) (many - (t + 1)))) l))
 
-    pub turn : {room r : ℕ} {rows₁ arcs₁ : List ℕ} → t < many → room ≡ limit → PutsOne table nodes counts list room r t at rows rows₁ arcs arcs₁ → r ≤ limit → Puts table nodes counts list many limit (t + 1) r rows₀ rows₁ arcs₀ arcs₁
-    turn {r = r} {rows₁} {arcs₁} h e one l E o r′ rows′ arcs′ q =
-        inv E o r′ rows′ arcs′ (rw (made-next E h) (then-put (subst (λ n. Put n r t at (transition-of (places 0 E) (listed-at list t) ∷ []) rows rows₁ arcs arcs₁) e (one E (of-one t h E o))) (made E (listed-from list (t + 1) (many - (t + 1)))) l q))
-
-    pub turn-over : {room r : ℕ} {rows₁ arcs₁ : List ℕ} → t < many → room ≡ limit → PutsOne table nodes counts list room r t at rows rows₁ arcs arcs₁ → limit < r → (E : Expr) → OfAll table nodes counts list many E
-        → Put limit r 0 0 (made E (listed-from list 0 many)) rows₀ rows₁ arcs₀ arcs₁
-    turn-over {r = r} {rows₁} {arcs₁} h e one l E o =
-        inv E o r rows₁ arcs₁ (rw (made-next E h) (over-put (subst (λ n. Put n r t at (transition-of (places 0 E) (listed-at list t) ∷ []) rows rows₁ arcs arcs₁) e (one E (of-one t h E o))) (made E (listed-from list (t + 1) (many - (t + 1)))) l))
-
-    pub all-turned : many ≤ t → at ≤ limit → (E : Expr) → OfAll table nodes counts list many E → Put limit at 0 0 (made E (listed-from list 0 many)) rows₀ rows arcs₀ arcs
-    all-turned h l E o = inv E o at rows arcs (rw (ap (made E) (listed-none list t many h)) (none-put limit t at rows arcs l))
+    pub all-turned : many ≤ t → at ≤ limit → Put limit at 0 0 (map f (listed-from list 0 many)) rows₀ rows arcs₀ arcs
+    all-turned h l = inv at rows arcs (rw (ap (map f) (listed-none list t many h)) (none-put limit t at rows arcs l))

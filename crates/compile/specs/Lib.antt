@@ -1,4 +1,5 @@
 pub mod Judged
 pub mod Ready
 pub mod Rows
+pub mod Lists
 pub mod Built

@@ -5,7 +5,7 @@ use mathlib.Core.List.{List, [], _∷_, _++_, map}
 use lib.ListN.{length, getD, take}
 use lib.Seq.{sets}
 use Rattle.field.specs.Limits.{place-limit}
-use Rattle.algebra.specs.Expr.{Expr}
+use Rattle.algebra.specs.Expr.{Expr, actions}
 use Rattle.algebra.specs.Item.{Item}
 use Rattle.algebra.specs.Net.{Transition}
 use Rattle.algebra.specs.Places.{places}
@@ -44,14 +44,16 @@ pub record PutArcs (limit middle end at : ℕ) (inputs outputs arcs arcs′ : Li
 
 -- The arcs of one side.
 pub record PutSide (limit end at : ℕ) (places arcs arcs′ : List ℕ) : Type 0 where
-  pub ends : end ≡ at + length places
+  pub ends : end ≤ limit → end ≡ at + length places
   pub written : end ≤ limit → arcs′ ≡ sets arcs at places
+  pub beyond : limit < end → limit < at + length places
 
 -- The work tables are an expression's: its nodes, their counts of places, and a list of transitions with its actions.
 pub record OfAll (table : List ℕ) (nodes : ℕ) (counts list : List ℕ) (many : ℕ) (E : Expr) : Type 0 where
   pub nodes-of : Table table nodes E
   pub counted : take (3 * nodes) counts ≡ node-counts E
   pub few : length (places 0 E) ≤ place-limit
+  pub few-actions : actions E ≤ 256
   pub acts : (t : ℕ) → t < many → Acts (item-at list t) E
 
 -- And the list is all of its transitions.
@@ -67,3 +69,12 @@ pub record AskedAll (table : List ℕ) (nodes : ℕ) (counts list : List ℕ) (m
 -- The transitions of the list with the arcs of an expression's places.
 abbrev pub made : Expr → List Labelled → List Transition
 made E ts = map (transition-of (places 0 E)) ts
+
+-- What is asked where the transitions are put, and what is left.
+abbrev pub Putable : List ℕ → ℕ → List ℕ → List ℕ → ℕ → List ℕ → List ℕ → Type 0
+Putable table nodes counts list many rows arcs =
+    AskedAll table nodes counts list many × (many ≤ 1024) × (6 * many ≤ length rows) × (length arcs ≤ 16384) × (length table ≤ 8196) × (3 * many ≤ length list)
+
+abbrev pub PutAll : List ℕ → ℕ → List ℕ → List ℕ → ℕ → ℕ → List ℕ → List ℕ → List ℕ → List ℕ → Type 0
+PutAll table nodes counts list many r rows rows′ arcs arcs′ =
+    (E : Expr) → OfAll table nodes counts list many E → Put (length arcs) r 0 0 (made E (listed-from list 0 many)) rows rows′ arcs arcs′

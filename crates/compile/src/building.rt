@@ -2,7 +2,7 @@
 // as long as the caller made it, so that a small plan does not pay for a large net's.
 use crate::front::Judgement;
 use crate::front::front;
-use crate::rows::put_transitions;
+use crate::rooms::put_transitions;
 use plan::exclusive::number_at;
 use plan::exclusive::wide;
 ghost use mathlib.Core.Path.{_≡_};
@@ -11,7 +11,7 @@ ghost use lib.ListN.{length};
 ghost use Rattle.field.specs.Limits.{plan-limit};
 ghost use Rattle.algebra.specs.Expr.{Expr};
 ghost use Rattle.compile.specs.Built.{BuiltIs, MadeOf, Told, ShortIs, found-room};
-ghost use Rattle.compile.specs.Rows.{AskedAll, Whole};
+ghost use Rattle.compile.specs.Rows.{Putable, Whole};
 
 // The first refusal with what it carries; that the room is too short; or the counts of the net that stands in it.
 pub enum Built {
@@ -52,25 +52,11 @@ fn make_net(
     rows: &mut [u16],
     arcs: &mut [u16],
 ) -> Built
-    requires { ⌜ AskedAll (now table) nodes (now counts) (now list) many × (many ≤ 1024) × (6 * many ≤ length (now rows)) × (length (now arcs) ≤ 16384) × (length (now table) ≤ 8196) × (3 * many ≤ length (now list)) ⌝ }
+    requires { ⌜ Putable (now table) nodes (now counts) (now list) many (now rows) (now arcs) ⌝ }
     ensures made { λ r. ⌜ ((E : Expr) → Whole (now (table .entry)) nodes (now (counts .entry)) (now (list .entry)) many E → MadeOf E r (now (rows .exit)) (now (arcs .exit))) ⌝ }
     ensures room { λ r. ⌜ ShortIs r (length (now (list .entry))) (length (now (rows .entry))) (length (now (arcs .entry))) ⌝ }
 {
-    let mut left = [0u16; 2048];
-    let mut right = [0u16; 2048];
-    let mut both = [0u16; 2048];
-    let end = put_transitions(
-        table,
-        nodes,
-        counts,
-        list,
-        many,
-        &mut left,
-        &mut right,
-        &mut both,
-        rows,
-        arcs,
-    );
+    let end = put_transitions(table, nodes, counts, list, many, rows, arcs);
     if end <= arcs.len() {
         return told(counts, many, end);
     }

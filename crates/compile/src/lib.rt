@@ -3,7 +3,9 @@ pub mod building;
 mod copying;
 pub mod front;
 pub mod kinds;
+mod rooms;
 mod rows;
+mod searched;
 
 use crate::building::Built;
 use crate::building::build;

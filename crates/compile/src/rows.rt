@@ -1,21 +1,24 @@
 // 01, "Net tables": "six 16-bit numbers per transition .. arcs, 16-bit place numbers, inputs then outputs, each rising, transition after
-// transition with no gap", made in the library's own work room, so that nothing lent is written before 13 and 14 are known.
+// transition with no gap", made in the library's own work room, so that nothing lent is written before 13 and 14 are known. The places of
+// each action stand in the lists already, and the index tells where.
 use crate::copying::put;
-use arcs::arcs_of_item;
+use arcs::merge::merge;
 use arcs::moves::Side;
+use plan::exclusive::number_at;
 use plan::exclusive::wide;
 ghost use mathlib.Core.Path.{_≡_};
-ghost use mathlib.Core.List.{[], _∷_};
-ghost use Prim.Native.Nat.{_+_, _*_, _<_, _≤_};
-ghost use lib.ListN.{length, getD};
+ghost use mathlib.Core.List.{[], _∷_, map};
+ghost use Prim.Native.Nat.{ℕ, _+_, _*_, _<_, _≤_};
+ghost use lib.ListN.{length};
 ghost use lib.Seq.{sets};
-ghost use Rattle.algebra.specs.Expr.{Expr};
-ghost use Rattle.algebra.specs.Places.{places};
-ghost use Rattle.algebra.specs.Arcs.{numbers, by-item, consumes, produces, transition-of};
 ghost use Rattle.net.specs.Tables.{item-of};
-ghost use Rattle.arcs.specs.Asked.{Asked, Of};
-ghost use Rattle.arcs.specs.Moves.{passes};
-ghost use Rattle.compile.specs.Rows.{item-at, listed-at, listed-from, Put, PutArcs, PutSide, OfAll, AskedAll, made};
+ghost use Rattle.arcs.specs.Merge.{union};
+ghost use Rattle.arcs.specs.declared.moves.Side.the-variants.{Inputs, Outputs};
+ghost use Rattle.compile.specs.Rows.{item-at, listed-at, listed-from, Put, PutArcs, PutSide};
+ghost use Rattle.compile.specs.Lists.{told-at, list-at, Inside, item-places, ItemInside, listed-transition};
+
+// No second action.
+pub const NONE: usize = 65535;
 
 // Where the inputs of a transition end in the arcs, and where its outputs end.
 pub struct Ends {
@@ -23,79 +26,96 @@ pub struct Ends {
     pub end: usize,
 }
 
-// The places on one side of a transition go behind the arcs that are there, where there is room. Where they end is told either way.
-fn put_side(
-    table: &[u16],
-    nodes: usize,
-    counts: &[u16],
-    first: usize,
-    second: usize,
-    side: Side,
-    left: &mut [u16; 2048],
-    right: &mut [u16; 2048],
-    both: &mut [u16; 2048],
-    arcs: &mut [u16],
-    at: usize,
-) -> usize
-    requires { ⌜ Asked (now table) nodes (now counts) (item-of first second) × (at ≤ length (now arcs)) × (length (now arcs) ≤ 16384) × (length (now table) ≤ 8196) ⌝ }
-    ensures { λ r. ⌜ ((E : Expr) → Of (now (table .entry)) nodes (now (counts .entry)) (item-of first second) E → PutSide (length (now (arcs .entry))) r at (numbers (by-item (passes side) (item-of first second)) 0 (places 0 E)) (now (arcs .entry)) (now (arcs .exit))) ⌝ }
+// Where the index tells of an action's places on one side.
+fn told_at(side: Side, i: usize) -> usize
+    requires { ⌜ i ≤ 65535 ⌝ }
+    ensures { λ r. ⌜ (r ≡ told-at side i) × (r ≤ 262142) ⌝ }
 {
-    let count = arcs_of_item(table, nodes, counts, first, second, side, left, right, both);
+    match side {
+        Side::Inputs => 4 * i,
+        Side::Outputs => 4 * i + 2,
+    }
+}
+
+// The places of an action on one side.
+fn list_of<'a>(lists: &'a [u16], index: &[u16], side: Side, i: usize) -> &'a [u16]
+    requires { ⌜ Inside (now lists) (now index) side i × (i ≤ 65535) ⌝ }
+    ensures { λ r. ⌜ now r ≡ list-at (now (lists .entry)) (now (index .entry)) (told-at side i) ⌝ }
+{
+    let k = told_at(side, i);
+    let start = wide(number_at(index, k));
+    let end = start + wide(number_at(index, k + 1));
+    &lists[start..end]
+}
+
+// The places of a lone action go behind the arcs that are there, where there is room. Where they end is told either way.
+fn put_one(places: &[u16], arcs: &mut [u16], at: usize) -> usize
+    requires { ⌜ (at ≤ length (now arcs)) × (length (now arcs) ≤ 16384) ⌝ }
+    ensures { λ r. ⌜ PutSide (length (now (arcs .entry))) r at (now (places .entry)) (now (arcs .entry)) (now (arcs .exit)) ⌝ }
+{
+    let count = places.len();
     let end = at + count;
     if end <= arcs.len() {
-        put(arcs, at, both, count);
+        put(arcs, at, places, count);
     }
     end
 }
 
-// The inputs and then the outputs of a transition.
-fn put_arcs(
-    table: &[u16],
-    nodes: usize,
-    counts: &[u16],
+// Those of two actions, "both input sets and both output sets": merged behind the arcs that are there. Where there is no room a number
+// above it is told.
+fn put_two(places: &[u16], others: &[u16], arcs: &mut [u16], at: usize) -> usize
+    requires { ⌜ (at ≤ length (now arcs)) × (length (now arcs) ≤ 16384) ⌝ }
+    ensures { λ r. ⌜ PutSide (length (now (arcs .entry))) r at (union (now (places .entry)) (now (others .entry))) (now (arcs .entry)) (now (arcs .exit)) ⌝ }
+{
+    let room = arcs.len() - at;
+    let count = merge(places, others, &mut arcs[at..]);
+    if room < count {
+        return at + room + 1;
+    }
+    at + count
+}
+
+// The places on one side of a transition.
+fn put_side(
+    lists: &[u16],
+    index: &[u16],
     first: usize,
     second: usize,
-    left: &mut [u16; 2048],
-    right: &mut [u16; 2048],
-    both: &mut [u16; 2048],
+    side: Side,
+    arcs: &mut [u16],
+    at: usize,
+) -> usize
+    requires { ⌜ ItemInside (now lists) (now index) (item-of first second) × (first ≤ 65535) × (second ≤ 65535) × (at ≤ length (now arcs)) × (length (now arcs) ≤ 16384) ⌝ }
+    ensures { λ r. ⌜ PutSide (length (now (arcs .entry))) r at (item-places (now (lists .entry)) (now (index .entry)) side (item-of first second)) (now (arcs .entry)) (now (arcs .exit)) ⌝ }
+{
+    if second == NONE {
+        return put_one(list_of(lists, index, side, first), arcs, at);
+    }
+    let places = list_of(lists, index, side, first);
+    let others = list_of(lists, index, side, second);
+    put_two(places, others, arcs, at)
+}
+
+// The inputs and then the outputs of a transition.
+fn put_arcs(
+    lists: &[u16],
+    index: &[u16],
+    first: usize,
+    second: usize,
     arcs: &mut [u16],
     at: usize,
 ) -> Ends
-    requires { ⌜ Asked (now table) nodes (now counts) (item-of first second) × (at ≤ length (now arcs)) × (length (now arcs) ≤ 16384) × (length (now table) ≤ 8196) ⌝ }
-    ensures { λ r. ⌜ ((E : Expr) → Of (now (table .entry)) nodes (now (counts .entry)) (item-of first second) E → PutArcs (length (now (arcs .entry))) (r .middle) (r .end) at (numbers (by-item consumes (item-of first second)) 0 (places 0 E)) (numbers (by-item produces (item-of first second)) 0 (places 0 E)) (now (arcs .entry)) (now (arcs .exit))) ⌝ }
+    requires { ⌜ ItemInside (now lists) (now index) (item-of first second) × (first ≤ 65535) × (second ≤ 65535) × (at ≤ length (now arcs)) × (length (now arcs) ≤ 16384) ⌝ }
+    ensures { λ r. ⌜ PutArcs (length (now (arcs .entry))) (r .middle) (r .end) at (item-places (now (lists .entry)) (now (index .entry)) Inputs (item-of first second)) (item-places (now (lists .entry)) (now (index .entry)) Outputs (item-of first second)) (now (arcs .entry)) (now (arcs .exit)) ⌝ }
 {
-    let middle = put_side(
-        table,
-        nodes,
-        counts,
-        first,
-        second,
-        Side::Inputs,
-        left,
-        right,
-        both,
-        arcs,
-        at,
-    );
+    let middle = put_side(lists, index, first, second, Side::Inputs, arcs, at);
     if arcs.len() < middle {
         return Ends {
             middle: middle,
             end: middle,
         };
     }
-    let end = put_side(
-        table,
-        nodes,
-        counts,
-        first,
-        second,
-        Side::Outputs,
-        left,
-        right,
-        both,
-        arcs,
-        middle,
-    );
+    let end = put_side(lists, index, first, second, Side::Outputs, arcs, middle);
     Ends {
         middle: middle,
         end: end,
@@ -121,37 +141,22 @@ fn put_row(
 }
 
 // Transition t of the list: its arcs behind those that are there, and its row. Answers where its arcs end.
-fn put_transition(
-    table: &[u16],
-    nodes: usize,
-    counts: &[u16],
+pub fn put_transition(
+    lists: &[u16],
+    index: &[u16],
     list: &[u16],
     t: usize,
-    left: &mut [u16; 2048],
-    right: &mut [u16; 2048],
-    both: &mut [u16; 2048],
     rows: &mut [u16],
     arcs: &mut [u16],
     at: usize,
 ) -> usize
-    requires { ⌜ Asked (now table) nodes (now counts) (item-at (now list) t) × (t < 1024) × (6 * (t + 1) ≤ length (now rows)) × (3 * (t + 1) ≤ length (now list)) × (at ≤ length (now arcs)) × (length (now arcs) ≤ 16384) × (length (now table) ≤ 8196) ⌝ }
-    ensures { λ r. ⌜ ((E : Expr) → Of (now (table .entry)) nodes (now (counts .entry)) (item-at (now (list .entry)) t) E → Put (length (now (arcs .entry))) r t at (transition-of (places 0 E) (listed-at (now (list .entry)) t) ∷ []) (now (rows .entry)) (now (rows .exit)) (now (arcs .entry)) (now (arcs .exit))) ⌝ }
+    requires { ⌜ ItemInside (now lists) (now index) (item-at (now list) t) × (t < 1024) × (6 * (t + 1) ≤ length (now rows)) × (3 * (t + 1) ≤ length (now list)) × (at ≤ length (now arcs)) × (length (now arcs) ≤ 16384) ⌝ }
+    ensures { λ r. ⌜ Put (length (now (arcs .entry))) r t at (listed-transition (now (lists .entry)) (now (index .entry)) (listed-at (now (list .entry)) t) ∷ []) (now (rows .entry)) (now (rows .exit)) (now (arcs .entry)) (now (arcs .exit)) ⌝ }
 {
     let label = list[3 * t];
     let first = list[3 * t + 1];
     let second = list[3 * t + 2];
-    let ends = put_arcs(
-        table,
-        nodes,
-        counts,
-        wide(first),
-        wide(second),
-        left,
-        right,
-        both,
-        arcs,
-        at,
-    );
+    let ends = put_arcs(lists, index, wide(first), wide(second), arcs, at);
     let middle = ends.middle;
     let end = ends.end;
     if end <= arcs.len() {
@@ -169,38 +174,23 @@ fn put_transition(
     end
 }
 
-// All transitions of the list. Answers where the arcs end, or a number above the room for arcs as soon as they pass it.
-pub fn put_transitions(
-    table: &[u16],
-    nodes: usize,
-    counts: &[u16],
+// All transitions of the list, where the lists have the places of every action. Answers where the arcs end, or a number above the room for
+// arcs as soon as they pass it.
+pub fn put_listed(
+    lists: &[u16],
+    index: &[u16],
     list: &[u16],
     many: usize,
-    left: &mut [u16; 2048],
-    right: &mut [u16; 2048],
-    both: &mut [u16; 2048],
     rows: &mut [u16],
     arcs: &mut [u16],
 ) -> usize
-    requires { ⌜ AskedAll (now table) nodes (now counts) (now list) many × (many ≤ 1024) × (6 * many ≤ length (now rows)) × (length (now arcs) ≤ 16384) × (length (now table) ≤ 8196) × (3 * many ≤ length (now list)) ⌝ }
-    ensures { λ r. ⌜ ((E : Expr) → OfAll (now (table .entry)) nodes (now (counts .entry)) (now (list .entry)) many E → Put (length (now (arcs .entry))) r 0 0 (made E (listed-from (now (list .entry)) 0 many)) (now (rows .entry)) (now (rows .exit)) (now (arcs .entry)) (now (arcs .exit))) ⌝ }
+    requires { ⌜ ((t : ℕ) → t < many → ItemInside (now lists) (now index) (item-at (now list) t)) × (many ≤ 1024) × (6 * many ≤ length (now rows)) × (3 * many ≤ length (now list)) × (length (now arcs) ≤ 16384) ⌝ }
+    ensures { λ r. ⌜ Put (length (now (arcs .entry))) r 0 0 (map (listed-transition (now (lists .entry)) (now (index .entry))) (listed-from (now (list .entry)) 0 many)) (now (rows .entry)) (now (rows .exit)) (now (arcs .entry)) (now (arcs .exit)) ⌝ }
 {
     let mut t = 0;
     let mut at = 0;
     while t < many {
-        let end = put_transition(
-            table,
-            nodes,
-            counts,
-            list,
-            t,
-            left,
-            right,
-            both,
-            rows,
-            arcs,
-            at,
-        );
+        let end = put_transition(lists, index, list, t, rows, arcs, at);
         if arcs.len() < end {
             return end;
         }

@@ -8,37 +8,13 @@ use borrow.Author.Needs.{needs}
 use Rattle.compile.proofs.building.make_net.Statement.{statement}
 use Rattle.compile.proofs.building.make_net.Tie as tie
 
-put-transitions-requires : tie.Need-put-transitions-requires
-put-transitions-requires c κs = search needs
-
-told-requires : tie.Need-told-requires
-told-requires c κs = search needs
-
-same-length : tie.Need-same-length
-same-length c = search needs
-
-same-length-2 : tie.Need-same-length-2
-same-length-2 c = search needs
-
 returns : tie.Need-returns
 returns c =
-    let s = c .before .before .before .before .before .before .before .before .before .before .before .before .before .before .before .before .before in
+    let s = c .before .before .before .before .before .before .before .before .before .before .before .before .before .before in
     ((λ E w. net-made E w (c .before .before .before .before .before .before .put-transitions .ensures E (w .of)) (omega (arith, c .before .before .before .arcs .given)) (s .pre .2) refl (s .pre .3) (c .told .result) (c .told .ensures)), told-room _ _ _ (c .told .result) (c .told .ensures) _ _ _)
-
-same-length-3 : tie.Need-same-length-3
-same-length-3 c = search needs
-
-same-length-4 : tie.Need-same-length-4
-same-length-4 c = search needs
 
 returns-2 : tie.Need-returns-2
 returns-2 c = ((λ E w. tt), inr (inr (omega (arith, c .before .before .before .arcs .given))))
-
-same-length-5 : tie.Need-same-length-5
-same-length-5 c = search needs
-
-same-length-6 : tie.Need-same-length-6
-same-length-6 c = search needs
 
 returns-3 : tie.Need-returns-3
 returns-3 c = ((λ E w. too-many E w (c .before .before .before .before .before .before .put-transitions .ensures E (w .of)) (omega (arith, c .before .before .before .arcs .given)) (omega (arith, c .before .before .before .arcs .given))), tt)
@@ -47,14 +23,14 @@ pub make-net-spec : {M : Type 1} → statement M
 make-net-spec =
     tie.close
     (tie.spec
-    put-transitions-requires
-    told-requires
-    same-length
-    same-length-2
+    (λ c κs. search needs)
+    (λ c κs. search needs)
+    (λ c. search needs)
+    (λ c. search needs)
     returns
-    same-length-3
-    same-length-4
+    (λ c. search needs)
+    (λ c. search needs)
     returns-2
-    same-length-5
-    same-length-6
+    (λ c. search needs)
+    (λ c. search needs)
     returns-3)

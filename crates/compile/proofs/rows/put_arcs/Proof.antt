@@ -1,30 +1,18 @@
 -- `put_arcs` meets its contract: the inputs, and behind them the outputs.
 -- Where the inputs pass the room, both together do. Assumes nothing.
 use native.Mathlib.Omega.{arith}
-use mathlib.Core.Path.{_≡_}
-use lib.ListN.{length}
 use borrow.Author.Needs.{needs}
 use Rattle.compile.proofs.Puts.{first-over, both-put}
 use Rattle.compile.proofs.rows.put_arcs.Statement.{statement}
 use Rattle.compile.proofs.rows.put_arcs.Tie as tie
 
-put-side-requires : tie.Need-put-side-requires
-put-side-requires c κs = search needs
-
-same-length : tie.Need-same-length
-same-length c = search needs
-
-returns : tie.Need-returns
-returns c = λ E o. first-over (c .before .before .before .put-side .ensures E o) (omega arith)
-
-put-side-requires-2 : tie.Need-put-side-requires-2
-put-side-requires-2 c κs = search needs
-
-same-length-2 : tie.Need-same-length-2
-same-length-2 c = search needs
-
-returns-2 : tie.Need-returns-2
-returns-2 c = λ E o. both-put (c .before .before .before .before .before .before .before .before .before .before .put-side .ensures E o) (omega arith) (c .before .before .before .before .before .before .before .before .before .arcs .given) (c .before .before .put-side2 .ensures E o)
-
 pub put-arcs-spec : {M : Type 1} → statement M
-put-arcs-spec = tie.close (tie.spec put-side-requires same-length returns put-side-requires-2 same-length-2 returns-2)
+put-arcs-spec =
+    tie.close
+    (tie.spec
+    (λ c κs. search needs)
+    (λ c. search needs)
+    (λ c. first-over (c .before .before .before .put-side .ensures) (omega arith))
+    (λ c κs. search needs)
+    (λ c. search needs)
+    (λ c. both-put (c .before .before .before .before .before .before .before .put-side .ensures) (omega arith) (c .before .before .before .before .before .before .arcs .given) (c .before .before .put-side2 .ensures)))

@@ -1,45 +1,36 @@
--- `put_side` meets its contract: the places that are found are as many as told, and few.
--- They are written where there is room for them. Assumes nothing.
+-- `put_side` meets its contract: an item has one action, or two.
+-- Assumes nothing.
 use native.Mathlib.Omega.{arith}
-use mathlib.Core.Path.{refl}
+use mathlib.Core.Path.{sym, _∙_, ap, ap₂, subst}
 use borrow.Author.Needs.{needs}
 use Rattle.net.specs.Tables.{item-of}
-use Rattle.compile.proofs.Puts.{side-few, side-put}
+use Rattle.arcs.specs.Merge.{union}
+use Rattle.arcs.proofs.Transitions.{item-of-one, item-of-two}
+use Rattle.compile.specs.Lists.{item-places, ItemInside}
+use Rattle.compile.proofs.Puts.{same-places}
 use Rattle.compile.proofs.rows.put_side.Statement.{statement}
 use Rattle.compile.proofs.rows.put_side.Tie as tie
 
-arcs-of-item-requires : tie.Need-arcs-of-item-requires
-arcs-of-item-requires c κs = search needs
-
-add-end : tie.Need-add-end
-add-end c =
-    let s = c .before .before .before .before .before .before .before in
-    let a = s .args in
-    let f = side-few (a .table .now) (a .nodes) (a .counts .now) (item-of (a .first) (a .second)) (a .side) _ (c .arcs-of-item .result) (c .arcs-of-item .ensures) (s .pre .0) in
-    record { fits = omega arith }
-
-put-requires : tie.Need-put-requires
-put-requires c κs =
-    let s = c .before .before .before .before .before .before .before .before .before .before .before in
-    let a = s .args in
-    let o = c .before .before .before .before .arcs-of-item in
-    let f = side-few (a .table .now) (a .nodes) (a .counts .now) (item-of (a .first) (a .second)) (a .side) _ (o .result) (o .ensures) (s .pre .0) in
-    (omega arith, f .1)
-
-same-length : tie.Need-same-length
-same-length c = search needs
-
-returns : tie.Need-returns
-returns c =
-    let a = c .before .before .before .before .before .before .before .before .before .before .before .before .before .before .args in
-    let o = c .before .before .before .before .before .before .before .arcs-of-item in
-    side-put (a .table .now) (a .nodes) (a .counts .now) (item-of (a .first) (a .second)) (a .side) _ (o .result) (o .ensures) refl (λ _. c .before .before .put .ensures)
-
-returns-2 : tie.Need-returns-2
-returns-2 c =
-    let a = c .before .before .before .before .before .before .before .before .args in
-    let o = c .before .arcs-of-item in
-    side-put (a .table .now) (a .nodes) (a .counts .now) (item-of (a .first) (a .second)) (a .side) _ (o .result) (o .ensures) refl (λ h. absurd (omega arith))
-
 pub put-side-spec : {M : Type 1} → statement M
-put-side-spec = tie.close (tie.spec arcs-of-item-requires add-end put-requires same-length returns returns-2)
+put-side-spec =
+    tie.close
+    (tie.spec
+    (λ c κs.
+    let a = c .before .before .before .before .args in
+    (subst (ItemInside (a .lists .now) (a .index .now)) (item-of-one (a .first) (a .second) (c .if1 .taken)) (c .before .before .before .before .pre .0) (a .side), omega arith))
+    (λ c κs. search needs)
+    (λ c. search needs)
+    (λ c.
+    let a = c .before .before .before .before .before .before .before .before .before .args in
+    same-places (c .before .before .before .before .list-of .ensures ∙ ap (item-places (a .lists .now) (a .index .now) (a .side)) (sym (item-of-one (a .first) (a .second) (c .before .before .before .before .before .if1 .taken)))) (c .before .before .put-one .ensures))
+    (λ c κs.
+    let a = c .before .before .before .before .args in
+    (subst (ItemInside (a .lists .now) (a .index .now)) (item-of-two (a .first) (a .second) (c .if1 .left)) (c .before .before .before .before .pre .0) .0 (a .side), omega arith))
+    (λ c κs.
+    let a = c .before .before .before .before .before .args in
+    (subst (ItemInside (a .lists .now) (a .index .now)) (item-of-two (a .first) (a .second) (c .before .if1 .left)) (c .before .before .before .before .before .pre .0) .1 (a .side), omega arith))
+    (λ c κs. search needs)
+    (λ c. search needs)
+    (λ c.
+    let a = c .before .before .before .before .before .before .before .before .before .before .args in
+    same-places (ap₂ union (c .before .before .before .before .before .list-of2 .ensures) (c .before .before .before .before .list-of3 .ensures) ∙ ap (item-places (a .lists .now) (a .index .now) (a .side)) (sym (item-of-two (a .first) (a .second) (c .before .before .before .before .before .before .if1 .left)))) (c .before .before .put-two .ensures)))

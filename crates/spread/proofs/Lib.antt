@@ -1,0 +1,10 @@
+pub mod Rooms
+pub mod Climbs
+pub mod PathRows
+pub mod Acts
+pub mod Shifts
+pub mod Downs
+pub mod Kids
+pub mod Dids
+pub mod Walks
+pub mod Roots

@@ -1,0 +1,4 @@
+pub mod Path
+pub mod Room
+pub mod Walk
+pub mod Spread

@@ -1,0 +1,111 @@
+-- What the walk over the node table asks of the path, and what it leaves in the room and the index.
+use Prim.Native.Nat.{ℕ, _+_, _*_, _≤_, _<_}
+use mathlib.Core.Path.{_≡_}
+use mathlib.Core.List.{List, [], _∷_}
+use lib.ListN.{length, getD, set}
+use Rattle.field.specs.Limits.{place-limit}
+use Rattle.algebra.specs.Expr.{Expr, actions}
+use Rattle.algebra.specs.Places.{places}
+use Rattle.algebra.specs.Arcs.{numbers}
+use Rattle.plan.specs.Table.{Stands, tag-at}
+use Rattle.arcs.specs.Positions.{stretched}
+use Rattle.arcs.specs.Moves.{passes, own, box, Lies}
+use Rattle.arcs.specs.Search.{At, In, first-at, child, child-by}
+use Rattle.arcs.specs.declared.moves.Side.{Side}
+use Rattle.arcs.specs.declared.moves.Side.the-variants.{Inputs, Outputs}
+use Rattle.arcs.specs.declared.moves.Kind.{Kind}
+use Rattle.arcs.specs.declared.moves.Kind.the-variants.{Internal}
+use Rattle.arcs.specs.declared.moves.Operand.{Operand}
+use Rattle.spread.specs.Path.{image}
+use Rattle.spread.specs.Room.{Made}
+
+-- Where a level has the row of a side, and where the index has the start of an action's list; the count stands behind it.
+abbrev pub row-of : Side → ℕ
+row-of Inputs = 0
+row-of Outputs = 8
+
+abbrev pub slot : Side → ℕ → ℕ
+slot Inputs i = 4 * i + 0
+slot Outputs i = 4 * i + 2
+
+-- The input or output places of action i of the whole expression.
+abbrev pub arcs : Expr → Side → ℕ → List ℕ
+arcs R side i = numbers (passes side i) 0 (places 0 R)
+
+-- Action i's places of a side stand in one list of node k, at these positions, whatever expression the node is.
+abbrev pub Stay : List ℕ → List ℕ → ℕ → ℕ → Side → ℕ → Kind → List ℕ → Type 0
+Stay rows counts nodes k side i kind ps = (m : ℕ) (F : Expr) → In rows counts nodes k i m F → Lies kind (box side i m F) ps
+
+-- The path leads from the lists of node k, which is E, to the final numbers of the whole R.
+pub record Leads (rows counts : List ℕ) (nodes : ℕ) (R : Expr) (k n : ℕ) (E : Expr) (path : List ℕ) (level base : ℕ) : Type 0 where
+  pub outer : (side : Side) (i : ℕ) → n ≤ i → i < n + actions E → (ps : List ℕ) → Stay rows counts nodes k side i (own side) ps → arcs R side i ≡ image path level (row-of side) ps
+  pub inner : (side : Side) (i : ℕ) → n ≤ i → i < n + actions E → (ps : List ℕ) → Stay rows counts nodes k side i Internal ps → arcs R side i ≡ stretched 1 base ps
+
+-- Node k is an expression, of few enough places and actions.
+pub record Here (rows counts : List ℕ) (nodes k n : ℕ) (E : Expr) : Type 0 where
+  pub at : At rows counts nodes k n E
+  pub few : length (places n E) ≤ place-limit
+  pub acts : n + actions E ≤ 256
+
+-- An operand of node k, with its node, its first action and its expression.
+pub record Kid (rows counts : List ℕ) (nodes k n : ℕ) (E : Expr) (operand : Operand) (c m : ℕ) (X : Expr) : Type 0 where
+  pub here : Here rows counts nodes c m X
+  pub low : n ≤ m
+  pub high : m + actions X ≤ n + actions E
+  pub by : (i : ℕ) → m ≤ i → i < m + actions X → child operand c ≡ child-by rows k i
+
+-- A list stands in the room, as the index says, before a place.
+pub record Listed (room index : List ℕ) (upto slot : ℕ) (l : List ℕ) : Type 0 where
+  pub all : getD index (slot + 1) 0 ≡ length l
+  pub there : Stands room (getD index slot 0) l
+  pub inside : getD index slot 0 + length l ≤ upto
+
+-- The start of a list and its count, put into the index.
+abbrev pub pair-put : List ℕ → ℕ → ℕ → ℕ → List ℕ
+pair-put index slot start count = set (set index slot start) (slot + 1) count
+
+-- The lists that a walk writes into, and how far the room is used.
+pub record State : Type 0 where
+  pub path : List ℕ
+  pub room : List ℕ
+  pub index : List ℕ
+  pub at : ℕ
+
+abbrev pub state : List ℕ → List ℕ → List ℕ → ℕ → State
+state path room index at = record { path = path; room = room; index = index; at = at }
+
+-- From one state to another the lists of so many actions from n on are made; what was there before is kept.
+pub record Did (R : Expr) (n count level : ℕ) (before after : State) : Type 0 where
+  pub path-kept : (j : ℕ) → j < 16 * (level + 1) → getD (after .path) j 0 ≡ getD (before .path) j 0
+  pub room-kept : (j : ℕ) → j < before .at → getD (after .room) j 0 ≡ getD (before .room) j 0
+  pub index-kept : (j : ℕ) → j < 4 * n → getD (after .index) j 0 ≡ getD (before .index) j 0
+  pub path-long : length (after .path) ≡ length (before .path)
+  pub room-long : length (after .room) ≡ length (before .room)
+  pub index-long : length (after .index) ≡ length (before .index)
+  pub more : before .at ≤ after .at
+  pub inside : after .at ≤ length (after .room)
+  pub lists : (i : ℕ) → n ≤ i → i < n + count → (side : Side) → Listed (after .room) (after .index) (after .at) (slot side i) (arcs R side i)
+
+abbrev pub Long : State → Type 0
+Long s = length (s .path) ≡ 512
+
+-- What a walk from node k leaves, whatever expression the node is.
+abbrev pub Walked : List ℕ → List ℕ → ℕ → ℕ → ℕ → State → State → Type 0
+Walked rows counts k level base before after = (nodes : ℕ) (R : Expr) (n : ℕ) (E : Expr) → Here rows counts nodes k n E → Leads rows counts nodes R k n E (before .path) level base
+    → Long before → 0 < after .at → Did R n (actions E) level before after
+
+-- What a walk from an operand of node k leaves.
+abbrev pub Descended : List ℕ → List ℕ → ℕ → Operand → ℕ → ℕ → ℕ → State → State → Type 0
+Descended rows counts k operand c level base before after = (nodes : ℕ) (R : Expr) (n : ℕ) (E : Expr) → Here rows counts nodes k n E → (tag-at rows k ≡ 1 → ⊥) → Leads rows counts nodes R k n E (before .path) level base
+    → (m : ℕ) (X : Expr) → Kid rows counts nodes k n E operand c m X → Long before → 0 < after .at → Did R m (actions X) level before after
+
+-- The two lists of the action that node k is, made from a place on.
+pub record Put (rows : List ℕ) (k : ℕ) (path : List ℕ) (level at r : ℕ) (room room′ index index′ : List ℕ) : Type 0 where
+  pub inputs : ℕ
+  pub outputs : ℕ
+  pub middle : List ℕ
+  pub fits : 4 * first-at rows k + 4 ≤ length index
+  pub first : Made room middle at inputs (image path level 0 (0 ∷ []))
+  pub second : Made middle room′ (at + inputs) outputs (image path level 8 (0 ∷ []))
+  pub end : r ≡ at + inputs + outputs
+  pub pairs : index′ ≡ pair-put (pair-put index (4 * first-at rows k + 0) at inputs) (4 * first-at rows k + 2) (at + inputs) outputs

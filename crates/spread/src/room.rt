@@ -1,0 +1,167 @@
+// Lists of positions are changed in place, from `at` on in a room of any length: where a list does not fit, the answer is 0.
+use plan::exclusive::number_at;
+use plan::exclusive::wide;
+ghost use mathlib.Core.Path.{_≡_};
+ghost use mathlib.Core.Bool.{true};
+ghost use mathlib.Core.List.{[], _∷_};
+ghost use Prim.Native.Nat.{_+_, _≤_, _<_};
+ghost use lib.ListN.{length};
+ghost use Rattle.arcs.specs.Positions.{stretched, repeated};
+ghost use Rattle.spread.specs.Path.{risen, image};
+ghost use Rattle.spread.specs.Room.{Within, Ran, Fits, Changes, Made};
+
+// So many numbers from `from` on, written from `at` on.
+fn put_run(room: &mut [u16], at: usize, from: usize, count: usize)
+    requires { ⌜ Within (now room) at count × (from + count ≤ 65536) ⌝ }
+    ensures { λ _. ⌜ Ran (now (room .entry)) (now (room .exit)) at from count ⌝ }
+{
+    let mut j = 0;
+    while j < count {
+        room[at + j] = (from + j) as u16;
+        j += 1;
+    }
+}
+
+// A stretch that changes nothing.
+fn is_nothing(right: usize, off: usize) -> bool
+    ensures { λ r. ⌜ (r ≡ true → (right ≡ 1) × (off ≡ 0)) ⌝ }
+{
+    if right == 1 {
+        if off == 0 {
+            return true;
+        }
+        return false;
+    }
+    false
+}
+
+// Each of `count` positions, `off` more.
+fn shift(room: &mut [u16], at: usize, count: usize, off: usize) -> usize
+    requires { ⌜ Within (now room) at count × (off ≤ 65535) ⌝ }
+    ensures fits { λ r. ⌜ Fits (now (room .entry)) (now (room .exit)) at r ⌝ }
+    ensures changes { λ r. ⌜ Changes (now (room .entry)) (now (room .exit)) at count r (stretched 1 off) ⌝ }
+{
+    let mut i = 0;
+    while i < count {
+        let p = wide(room[at + i]) + off;
+        if 65535 < p {
+            return 0;
+        }
+        room[at + i] = p as u16;
+        i += 1;
+    }
+    count
+}
+
+// Each of `count` positions becomes a run of `right`, from the last one down, so that none is written over before it is read.
+fn stretch(room: &mut [u16], at: usize, count: usize, right: usize, off: usize) -> usize
+    requires { ⌜ Within (now room) at count × (right ≤ 65535) × (off ≤ 65535) ⌝ }
+    ensures fits { λ r. ⌜ Fits (now (room .entry)) (now (room .exit)) at r ⌝ }
+    ensures changes { λ r. ⌜ Changes (now (room .entry)) (now (room .exit)) at count r (stretched right off) ⌝ }
+{
+    if is_nothing(right, off) {
+        return count;
+    }
+    if right == 1 {
+        return shift(room, at, count, off);
+    }
+    if right == 0 {
+        return 0;
+    }
+    let total = count * right;
+    if room.len() < at + total {
+        return 0;
+    }
+    let mut i = count;
+    while 0 < i {
+        i -= 1;
+        let from = wide(room[at + i]) * right + off;
+        if 65536 < from + right {
+            return 0;
+        }
+        put_run(room, at + i * right, from, right);
+    }
+    total
+}
+
+// The positions `left` times: each is `step` more than the one `count` places before it.
+fn repeat(room: &mut [u16], at: usize, count: usize, left: usize, step: usize) -> usize
+    requires { ⌜ Within (now room) at count × (left ≤ 65535) × (step ≤ 65535) ⌝ }
+    ensures fits { λ r. ⌜ Fits (now (room .entry)) (now (room .exit)) at r ⌝ }
+    ensures changes { λ r. ⌜ Changes (now (room .entry)) (now (room .exit)) at count r (repeated left step) ⌝ }
+{
+    if left == 0 {
+        return 0;
+    }
+    let total = left * count;
+    if room.len() < at + total {
+        return 0;
+    }
+    let mut k = count;
+    while k < total {
+        let p = wide(room[at + k - count]);
+        if 65535 < p + step {
+            return 0;
+        }
+        room[at + k] = (p + step) as u16;
+        k += 1;
+    }
+    total
+}
+
+// One level up: the positions changed as a row of the path says.
+fn rise(path: &[u16], row: usize, room: &mut [u16], at: usize, count: usize) -> usize
+    requires { ⌜ Within (now room) at count × (row ≤ 65535) ⌝ }
+    ensures fits { λ r. ⌜ Fits (now (room .entry)) (now (room .exit)) at r ⌝ }
+    ensures changes { λ r. ⌜ Changes (now (room .entry)) (now (room .exit)) at count r (risen (now (path .entry)) row) ⌝ }
+{
+    let right = wide(number_at(path, row + 2));
+    let off = wide(number_at(path, row + 4));
+    let n = stretch(room, at, count, right, off);
+    if n == 0 {
+        return 0;
+    }
+    let left = wide(number_at(path, row + 1));
+    let step = wide(number_at(path, row + 3));
+    repeat(room, at, n, left, step)
+}
+
+// All the way up, from a level on: a row whose first number is not 0 makes final numbers, and so does level 0.
+fn climb(
+    path: &[u16],
+    level: usize,
+    side: usize,
+    room: &mut [u16],
+    at: usize,
+    count: usize,
+) -> usize
+    requires { ⌜ Within (now room) at count × (level ≤ 31) × (side ≤ 8) ⌝ }
+    ensures fits { λ r. ⌜ Fits (now (room .entry)) (now (room .exit)) at r ⌝ }
+    ensures changes { λ r. ⌜ Changes (now (room .entry)) (now (room .exit)) at count r (image (now (path .entry)) level side) ⌝ }
+{
+    let row = 16 * level + side;
+    let n = rise(path, row, room, at, count);
+    if n == 0 {
+        return 0;
+    }
+    if level == 0 {
+        return n;
+    }
+    if wide(number_at(path, row)) == 0 {
+        return climb(path, level - 1, side, room, at, n);
+    }
+    n
+}
+
+// The final numbers of an action's own place, which is the only one of its list.
+pub fn list_places(path: &[u16], level: usize, side: usize, room: &mut [u16], at: usize) -> usize
+    requires { ⌜ (length (now room) ≤ 65535) × (level ≤ 31) × (side ≤ 8) ⌝ }
+    ensures long { λ _. ⌜ length (now (room .exit)) ≡ length (now (room .entry)) ⌝ }
+    ensures made { λ r. ⌜ (0 < r → Made (now (room .entry)) (now (room .exit)) at r (image (now (path .entry)) level side (0 ∷ []))) ⌝ }
+{
+    if room.len() <= at {
+        return 0;
+    }
+    room[at] = 0;
+    climb(path, level, side, room, at, 1)
+}
