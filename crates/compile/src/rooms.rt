@@ -1,5 +1,6 @@
-// The transitions of a plan with work room for the places of its actions. A plan of few arcs gets little room, so that it does not pay for
-// the clearing of much. Where the places do not fit, the largest room is tried, and where they do not fit that, they are searched for.
+// The transitions of a plan with work room for the places of its actions, as much as there is for the arcs, so that a plan of few arcs does
+// not pay for the clearing of much. Where the places do not fit, the next larger room is tried, and where they do not fit the largest,
+// since scopes take most of them away, they are searched for.
 use crate::copying::numbers_in;
 use crate::rows::put_listed;
 use crate::searched::put_searched;
@@ -69,6 +70,29 @@ fn put_large(
     )
 }
 
+fn put_wide(
+    table: &[u16],
+    nodes: usize,
+    counts: &[u16],
+    list: &[u16],
+    many: usize,
+    rows: &mut [u16],
+    arcs: &mut [u16],
+) -> usize
+    requires { ⌜ Putable (now table) nodes (now counts) (now list) many (now rows) (now arcs) ⌝ }
+    ensures { λ r. ⌜ PutAll (now (table .entry)) nodes (now (counts .entry)) (now (list .entry)) many r (now (rows .entry)) (now (rows .exit)) (now (arcs .entry)) (now (arcs .exit)) ⌝ }
+{
+    if 4096 < arcs.len() {
+        return put_large(table, nodes, counts, list, many, rows, arcs);
+    }
+    let mut lists = [0u16; 4096];
+    let mut index = [0u16; 1024];
+    if spread(table, nodes, counts, &mut lists, &mut index) {
+        return put_listed(&lists, &index, list, many, rows, arcs);
+    }
+    put_large(table, nodes, counts, list, many, rows, arcs)
+}
+
 fn put_middle(
     table: &[u16],
     nodes: usize,
@@ -81,32 +105,15 @@ fn put_middle(
     requires { ⌜ Putable (now table) nodes (now counts) (now list) many (now rows) (now arcs) ⌝ }
     ensures { λ r. ⌜ PutAll (now (table .entry)) nodes (now (counts .entry)) (now (list .entry)) many r (now (rows .entry)) (now (rows .exit)) (now (arcs .entry)) (now (arcs .exit)) ⌝ }
 {
-    let mut lists = [0u16; 4096];
-    let mut index = [0u16; 1024];
-    if spread(table, nodes, counts, &mut lists, &mut index) {
-        return put_listed(&lists, &index, list, many, rows, arcs);
+    if 1024 < arcs.len() {
+        return put_wide(table, nodes, counts, list, many, rows, arcs);
     }
-    put_large(table, nodes, counts, list, many, rows, arcs)
-}
-
-fn put_small(
-    table: &[u16],
-    nodes: usize,
-    counts: &[u16],
-    list: &[u16],
-    many: usize,
-    rows: &mut [u16],
-    arcs: &mut [u16],
-) -> usize
-    requires { ⌜ Putable (now table) nodes (now counts) (now list) many (now rows) (now arcs) ⌝ }
-    ensures { λ r. ⌜ PutAll (now (table .entry)) nodes (now (counts .entry)) (now (list .entry)) many r (now (rows .entry)) (now (rows .exit)) (now (arcs .entry)) (now (arcs .exit)) ⌝ }
-{
     let mut lists = [0u16; 1024];
-    let mut index = [0u16; 128];
+    let mut index = [0u16; 256];
     if spread(table, nodes, counts, &mut lists, &mut index) {
         return put_listed(&lists, &index, list, many, rows, arcs);
     }
-    put_large(table, nodes, counts, list, many, rows, arcs)
+    put_wide(table, nodes, counts, list, many, rows, arcs)
 }
 
 // All transitions of the list. Answers where the arcs end, or a number above the room for arcs as soon as they pass it.
@@ -122,12 +129,13 @@ pub fn put_transitions(
     requires { ⌜ Putable (now table) nodes (now counts) (now list) many (now rows) (now arcs) ⌝ }
     ensures { λ r. ⌜ PutAll (now (table .entry)) nodes (now (counts .entry)) (now (list .entry)) many r (now (rows .entry)) (now (rows .exit)) (now (arcs .entry)) (now (arcs .exit)) ⌝ }
 {
-    let room = arcs.len();
-    if room <= 1024 {
-        return put_small(table, nodes, counts, list, many, rows, arcs);
-    }
-    if room <= 4096 {
+    if 256 < arcs.len() {
         return put_middle(table, nodes, counts, list, many, rows, arcs);
     }
-    put_large(table, nodes, counts, list, many, rows, arcs)
+    let mut lists = [0u16; 256];
+    let mut index = [0u16; 64];
+    if spread(table, nodes, counts, &mut lists, &mut index) {
+        return put_listed(&lists, &index, list, many, rows, arcs);
+    }
+    put_middle(table, nodes, counts, list, many, rows, arcs)
 }
