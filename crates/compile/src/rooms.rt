@@ -1,6 +1,5 @@
 // The transitions of a plan with work room for the places of its actions. A plan of few arcs gets little room, so that it does not pay for
 // the clearing of much. Where the places do not fit, the largest room is tried, and where they do not fit that, they are searched for.
-use crate::copying::numbers_in;
 use crate::rows::put_listed;
 use crate::searched::put_searched;
 use spread::spread;
@@ -8,7 +7,7 @@ ghost use Prim.Native.Nat.{_≤_};
 ghost use lib.ListN.{length};
 ghost use Rattle.compile.specs.Rows.{Putable, PutAll};
 
-// With an array to search in.
+// Where the places do not fit the largest room: with an array to search in.
 fn put_unlisted(
     table: &[u16],
     nodes: usize,
@@ -39,6 +38,7 @@ fn put_unlisted(
     )
 }
 
+// In room for as many places as a net may have arcs.
 fn put_large(
     table: &[u16],
     nodes: usize,
@@ -69,6 +69,7 @@ fn put_large(
     )
 }
 
+// In room for the places of a net of 4,096 arcs.
 fn put_middle(
     table: &[u16],
     nodes: usize,
@@ -89,6 +90,7 @@ fn put_middle(
     put_large(table, nodes, counts, list, many, rows, arcs)
 }
 
+// In room for those of a net of 1,024 arcs and 32 actions.
 fn put_small(
     table: &[u16],
     nodes: usize,
