@@ -9,7 +9,7 @@ use mathlib.Core.Logic.{inl, inr}
 use mathlib.Core.List.{List, [], _∷_, _++_}
 use lib.ListN.{length, take, drop, replicate, length-append, length-replicate, length-take}
 use lib.Seq.{sets, sets-eq}
-use lib.Dec.{leb, leb→le}
+use lib.Dec.{T, leb, leb→le}
 use Rattle.field.specs.Refusals.{table-too-short}
 use Rattle.field.specs.Answer.{Answer, good, refused, _>>=_, _>>_, check}
 use Rattle.field.proofs.Tests.{and-parts, true-T}
@@ -172,6 +172,14 @@ large-room built.NoRoom list rows arcs (inl h) l r a = absurd (omega arith)
 large-room built.NoRoom list rows arcs (inr (inl h)) l r a = absurd (omega arith)
 large-room built.NoRoom list rows arcs (inr (inr h)) l r a = absurd (omega arith)
 large-room (built.Made places n count entries internals) list rows arcs w l r a = refl
+
+-- What is lent found room where it was found before, so it tells a lack of room where that was told.
+pub short-same : (b r : Built) (list rows arcs : ℕ) → found-room r ≡ found-room b → ShortIs b list rows arcs → ShortIs r list rows arcs
+short-same b (built.Refused n c) list rows arcs e s = tt
+short-same (built.Refused n c) built.NoRoom list rows arcs e s = absurd (subst (λ x. T x) (sym e) tt)
+short-same built.NoRoom built.NoRoom list rows arcs e s = s
+short-same (built.Made ps n count es is) built.NoRoom list rows arcs e s = absurd (subst (λ x. T x) (sym e) tt)
+short-same b (built.Made ps n count es is) list rows arcs e s = tt
 
 -- After a try that left all tables as they were, what is left is what is left of the tables lent.
 pub after-try : (plan kinds rows arcs k l m : List ℕ) → Same (lent kinds rows arcs) k l m → {answer : Answer Counts} {k′ l′ m′ : List ℕ} → Leaves plan (lent k l m) answer k′ l′ m′ → Leaves plan (lent kinds rows arcs) answer k′ l′ m′

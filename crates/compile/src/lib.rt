@@ -13,17 +13,22 @@ use crate::building::found_room;
 use crate::copying::put;
 use crate::kinds::write_kinds;
 ghost use mathlib.Core.Path.{_≡_};
-ghost use mathlib.Core.Bool.{true, _&&_};
+ghost use mathlib.Core.Bool.{_&&_};
 ghost use mathlib.Core.List.{List, _++_};
 ghost use Prim.Native.Nat.{ℕ, _+_, _*_, _≤_};
 ghost use lib.Dec.{leb};
 ghost use lib.ListN.{length, take, drop, replicate};
 ghost use lib.Seq.{sets};
 ghost use Rattle.boxes.specs.Compile as paper;
-ghost use Rattle.compile.specs.Built.{compiling-says, built-says, found-room, BuiltIs, Stands, Lends, Tries, lent};
+ghost use Rattle.field.specs.Limits.{plan-limit};
+ghost use Rattle.compile.specs.Built.{compiling-says, built-says, BuiltIs, ShortIs, Stands, Lends, Tries, Leaves, lent};
 
-// A plan of so many bytes is tried in a small room.
+// Plans of at most so many bytes are tried in room of their size first: to make the room must not cost more than the plan.
 pub const SMALL_PLAN: usize = 128;
+
+pub const MIDDLE_PLAN: usize = 512;
+
+pub const WIDE_PLAN: usize = 2048;
 
 // The counts of the net, or the first refusal with what it carries.
 pub enum Compiling {
@@ -124,46 +129,134 @@ fn lend(
     }
 }
 
-// In a small room, which may be too short for the net.
-fn compile_small(plan: &[u8], kinds: &mut [u8], rows: &mut [u16], arcs: &mut [u16]) -> Built
-    requires { ⌜ length (now plan) ≤ 128 ⌝ }
-    ensures { λ r. ⌜ Tries (now (plan .entry)) (lent (now (kinds .entry)) (now (rows .entry)) (now (arcs .entry))) r (now (kinds .exit)) (now (rows .exit)) (now (arcs .exit)) ⌝ }
+// One try in room that is lent too, which may be too short for the net.
+fn compile_in(
+    plan: &[u8],
+    table: &mut [u16],
+    counts: &mut [u16],
+    list: &mut [u16],
+    made_rows: &mut [u16],
+    made_arcs: &mut [u16],
+    kinds: &mut [u8],
+    rows: &mut [u16],
+    arcs: &mut [u16],
+) -> Built
+    requires { ⌜ (length (now plan) ≤ plan-limit → (2 * length (now plan) ≤ length (now table)) × (length (now plan) ≤ length (now counts))) ⌝ }
+    requires { ⌜ (length (now «made_arcs») ≤ 16384) × (length (now table) ≤ 8196) ⌝ }
+    ensures tries { λ r. ⌜ Tries (now (plan .entry)) (lent (now (kinds .entry)) (now (rows .entry)) (now (arcs .entry))) r (now (kinds .exit)) (now (rows .exit)) (now (arcs .exit)) ⌝ }
+    ensures room { λ r. ⌜ ShortIs r (length (now (list .entry))) (length (now («made_rows» .entry))) (length (now («made_arcs» .entry))) ⌝ }
 {
-    let mut table = [0u16; 2 * SMALL_PLAN];
-    let mut counts = [0u16; SMALL_PLAN];
-    let mut list = [0u16; 384];
-    let mut made_rows = [0u16; 384];
-    let mut made_arcs = [0u16; 1024];
-    let built = build(
-        plan,
-        &mut table,
-        &mut counts,
-        &mut list,
-        &mut made_rows,
-        &mut made_arcs,
-    );
-    lend(built, &made_rows, &made_arcs, kinds, rows, arcs)
+    let built = build(plan, table, counts, list, made_rows, made_arcs);
+    lend(built, made_rows, made_arcs, kinds, rows, arcs)
 }
 
 // In room for any net.
 fn compile_large(plan: &[u8], kinds: &mut [u8], rows: &mut [u16], arcs: &mut [u16]) -> Built
-    ensures tries { λ r. ⌜ Tries (now (plan .entry)) (lent (now (kinds .entry)) (now (rows .entry)) (now (arcs .entry))) r (now (kinds .exit)) (now (rows .exit)) (now (arcs .exit)) ⌝ }
-    ensures room { λ r. ⌜ found-room r ≡ true ⌝ }
+    ensures { λ r. ⌜ Leaves (now (plan .entry)) (lent (now (kinds .entry)) (now (rows .entry)) (now (arcs .entry))) (built-says r) (now (kinds .exit)) (now (rows .exit)) (now (arcs .exit)) ⌝ }
 {
     let mut table = [0u16; 8196];
     let mut counts = [0u16; 4098];
     let mut list = [0u16; 3840];
     let mut made_rows = [0u16; 6144];
     let mut made_arcs = [0u16; 16384];
-    let built = build(
+    compile_in(
         plan,
         &mut table,
         &mut counts,
         &mut list,
         &mut made_rows,
         &mut made_arcs,
+        kinds,
+        rows,
+        arcs,
+    )
+}
+
+// In room for 512 transitions and 8,192 arcs, if that is enough.
+fn compile_wide(plan: &[u8], kinds: &mut [u8], rows: &mut [u16], arcs: &mut [u16]) -> Built
+    ensures { λ r. ⌜ Leaves (now (plan .entry)) (lent (now (kinds .entry)) (now (rows .entry)) (now (arcs .entry))) (built-says r) (now (kinds .exit)) (now (rows .exit)) (now (arcs .exit)) ⌝ }
+{
+    if WIDE_PLAN < plan.len() {
+        return compile_large(plan, kinds, rows, arcs);
+    }
+    let mut table = [0u16; 2 * WIDE_PLAN];
+    let mut counts = [0u16; WIDE_PLAN];
+    let mut list = [0u16; 1536];
+    let mut made_rows = [0u16; 3072];
+    let mut made_arcs = [0u16; 8192];
+    let tried = compile_in(
+        plan,
+        &mut table,
+        &mut counts,
+        &mut list,
+        &mut made_rows,
+        &mut made_arcs,
+        kinds,
+        rows,
+        arcs,
     );
-    lend(built, &made_rows, &made_arcs, kinds, rows, arcs)
+    if found_room(tried) {
+        return tried;
+    }
+    compile_large(plan, kinds, rows, arcs)
+}
+
+// In room for 256 transitions and 4,096 arcs, if that is enough.
+fn compile_middle(plan: &[u8], kinds: &mut [u8], rows: &mut [u16], arcs: &mut [u16]) -> Built
+    ensures { λ r. ⌜ Leaves (now (plan .entry)) (lent (now (kinds .entry)) (now (rows .entry)) (now (arcs .entry))) (built-says r) (now (kinds .exit)) (now (rows .exit)) (now (arcs .exit)) ⌝ }
+{
+    if MIDDLE_PLAN < plan.len() {
+        return compile_wide(plan, kinds, rows, arcs);
+    }
+    let mut table = [0u16; 2 * MIDDLE_PLAN];
+    let mut counts = [0u16; MIDDLE_PLAN];
+    let mut list = [0u16; 768];
+    let mut made_rows = [0u16; 1536];
+    let mut made_arcs = [0u16; 4096];
+    let tried = compile_in(
+        plan,
+        &mut table,
+        &mut counts,
+        &mut list,
+        &mut made_rows,
+        &mut made_arcs,
+        kinds,
+        rows,
+        arcs,
+    );
+    if found_room(tried) {
+        return tried;
+    }
+    compile_wide(plan, kinds, rows, arcs)
+}
+
+// In room for 64 transitions and 1,024 arcs, if that is enough.
+fn compile_small(plan: &[u8], kinds: &mut [u8], rows: &mut [u16], arcs: &mut [u16]) -> Built
+    ensures { λ r. ⌜ Leaves (now (plan .entry)) (lent (now (kinds .entry)) (now (rows .entry)) (now (arcs .entry))) (built-says r) (now (kinds .exit)) (now (rows .exit)) (now (arcs .exit)) ⌝ }
+{
+    if SMALL_PLAN < plan.len() {
+        return compile_middle(plan, kinds, rows, arcs);
+    }
+    let mut table = [0u16; 2 * SMALL_PLAN];
+    let mut counts = [0u16; SMALL_PLAN];
+    let mut list = [0u16; 384];
+    let mut made_rows = [0u16; 384];
+    let mut made_arcs = [0u16; 1024];
+    let tried = compile_in(
+        plan,
+        &mut table,
+        &mut counts,
+        &mut list,
+        &mut made_rows,
+        &mut made_arcs,
+        kinds,
+        rows,
+        arcs,
+    );
+    if found_room(tried) {
+        return tried;
+    }
+    compile_middle(plan, kinds, rows, arcs)
 }
 
 // The answer of a try that had room.
@@ -190,19 +283,12 @@ fn said(built: Built) -> Compiling
 }
 
 // The three tables of the plan's net. Nothing lent is written before all is known, and on refusal nothing is; what lies behind the net's part
-// is never touched. A small plan is tried in a small room first, so that it does not pay for the making of a large one.
+// is never touched.
 pub fn compile(plan: &[u8], kinds: &mut [u8], rows: &mut [u16], arcs: &mut [u16]) -> Compiling
     ensures answer { λ r. ⌜ compiling-says r ≡ paper.compile (now (plan .entry)) (lent (now (kinds .entry)) (now (rows .entry)) (now (arcs .entry))) .answer ⌝ }
     ensures kinds { λ r. ⌜ now (kinds .exit) ≡ paper.compile (now (plan .entry)) (lent (now (kinds .entry)) (now (rows .entry)) (now (arcs .entry))) .tables .kinds ⌝ }
     ensures rows { λ r. ⌜ now (rows .exit) ≡ paper.compile (now (plan .entry)) (lent (now (kinds .entry)) (now (rows .entry)) (now (arcs .entry))) .tables .rows ⌝ }
     ensures arcs { λ r. ⌜ now (arcs .exit) ≡ paper.compile (now (plan .entry)) (lent (now (kinds .entry)) (now (rows .entry)) (now (arcs .entry))) .tables .arcs ⌝ }
 {
-    if SMALL_PLAN < plan.len() {
-        return said(compile_large(plan, kinds, rows, arcs));
-    }
-    let small = compile_small(plan, kinds, rows, arcs);
-    if found_room(small) {
-        return said(small);
-    }
-    said(compile_large(plan, kinds, rows, arcs))
+    said(compile_small(plan, kinds, rows, arcs))
 }

@@ -9,3 +9,5 @@ pub mod Stamps
 pub mod RowsPass
 pub mod PairsPass
 pub mod NetTests
+pub mod EmptyChains
+pub mod Climbs

@@ -111,12 +111,8 @@ stamps-none m stamps e j = omega (arith, ap (λ (l : List ℕ). getD l j 0) e �
     zeros (suc m) zero = refl
     zeros (suc m) (suc j) = zeros m j
 
--- A turn and the end of a test of numbers from i on, below m.
+-- A turn of a test of numbers from i on, below m.
 module _ (test : ℕ → Bool) (m i : ℕ) where
   pub each-turn : i < m → each test i (m - i) ≡ (test i && each test (i + 1) (m - (i + 1)))
   unfolding each
   each-turn h = let left : m - i ≡ suc (m - (i + 1)) = omega arith in rw (left, add-one i)
-
-  pub each-end : m ≤ i → each test i (m - i) ≡ true
-  unfolding each
-  each-end h = let left : m - i ≡ 0 = omega arith in rw left

@@ -9,10 +9,10 @@ use native.Mathlib.Numerals.{add-one}
 use native.Mathlib.Omega.{arith}
 use lib.ListN.{length, take, drop, getD, drop-of-length-le}
 use lib.Seq.{drop-cons, take-all}
-use lib.Dec.{eqb, leb, ltb}
+use lib.Dec.{eqb, leb}
 use Rattle.field.specs.Lists.{all}
 use Rattle.field.proofs.Alls.{and-assoc}
-use Rattle.net.specs.Check.{kinds-after, kinds-ordered, rising}
+use Rattle.net.specs.Check.{kinds-after, kinds-ordered}
 
 -- The whole is what is left, and that is a test and the rest: where the test is passed the rest is the whole, and where it fails the whole fails.
 module _ {whole left : Bool} (test rest : Bool) (inv : whole ≡ left) (turn : left ≡ (test && rest)) where
@@ -38,15 +38,6 @@ module _ (l : List ℕ) (i : ℕ) where
   pub kinds-end : (last : ℕ) → length l ≤ i → kinds-after last (drop i l) ≡ eqb last 3
   unfolding kinds-after
   kinds-end last h = rw (drop-of-length-le l h)
-
-  pub rising-turn : (least places : ℕ) → i < length l → (place : ℕ) → place ≡ getD l i 0
-      → rising least places (drop i l) ≡ ((leb least place && ltb place places) && rising (place + 1) places (drop (i + 1) l))
-  unfolding rising
-  rising-turn least places h place e = rw (add-one i, add-one place, drop-cons l i 0 h, e, and-assoc)
-
-  pub rising-end : (least places : ℕ) → length l ≤ i → rising least places (drop i l) ≡ true
-  unfolding rising
-  rising-end least places h = rw (drop-of-length-le l h)
 
 -- The kinds of no places are not in order, and those of some are by the first and the rest.
 pub kinds-none : (l : List ℕ) → length l ≡ 0 → false ≡ kinds-ordered l

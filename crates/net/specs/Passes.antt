@@ -1,9 +1,9 @@
 -- The passes in which check 30 is made, as the functions below `is_net` make them; that they come to `is-net` is shown of them.
-use Prim.Native.Nat.{ℕ, zero, suc, _+_, min}
+use Prim.Native.Nat.{ℕ, zero, suc, _+_, min, _<_}
 use mathlib.Core.List.{List, [], _∷_, map}
 use mathlib.Core.Bool.{Bool, true, not, _&&_, _||_}
 use lib.ListN.{length, take, drop}
-use lib.Dec.{eqb, leb}
+use lib.Dec.{eqb, leb, ltb}
 use Rattle.field.specs.Lists.{all}
 use Rattle.net.specs.Tables.{none}
 use Rattle.net.specs.Check.{rising}
@@ -16,6 +16,11 @@ codes-pass label first second = not (eqb label 128) && (leb label 255 && (leb fi
 -- A list of places: not empty, rising, below the number of places.
 unfoldable pub list-passes : ℕ → List ℕ → Bool
 list-passes places ps = leb 1 (length ps) && rising 0 places ps
+
+-- Each number of a list is above the one before it, the first one above a number.
+unfoldable pub climbs : ℕ → List ℕ → Bool
+climbs x [] = true
+climbs x (y ∷ ys) = ltb x y && climbs y ys
 
 -- Where the arcs of transition t end, if they start at a number.
 abbrev pub row-end : List ℕ → ℕ → ℕ → ℕ
@@ -58,3 +63,7 @@ each test i (suc m) = test i && each test (suc i) m
 -- The same for every first action.
 abbrev pub pairs-pass : List ℕ → ℕ → Bool
 pairs-pass rows n = each (seconds-differ rows n) 0 256
+
+-- Every first action that is one of 256 is below a number.
+abbrev pub FirstsBelow : List ℕ → ℕ → ℕ → Type 0
+FirstsBelow rows n above = (t : ℕ) → t < n → in-row rows t 1 < 256 → in-row rows t 1 < above

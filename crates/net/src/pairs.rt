@@ -1,10 +1,10 @@
 // No two transitions have the same pair of actions. The transitions of one first action stand on one chain, so it is enough that no second
-// action comes twice on a chain; this takes a step for each transition and one for each action.
+// action comes twice on a chain; this takes two steps for each transition and one for each action up to the highest that comes first.
 ghost use mathlib.Core.Path.{_≡_};
 ghost use Prim.Native.Nat.{ℕ, _+_, _*_, _<_, _≤_};
 ghost use lib.ListN.{length, getD, replicate};
 ghost use Rattle.net.specs.Chains.{Chains};
-ghost use Rattle.net.specs.Passes.{second-or-256, seconds-differ, pairs-pass};
+ghost use Rattle.net.specs.Passes.{second-or-256, seconds-differ, pairs-pass, FirstsBelow};
 use crate::chains;
 use crate::rows;
 
@@ -57,20 +57,42 @@ fn chain_differs(
     true
 }
 
+fn greater(a: usize, b: usize) -> usize
+    ensures { λ r. ⌜ (a ≤ r) × (b ≤ r) ⌝ }
+{
+    if a < b { b } else { a }
+}
+
+// How many chains there may be something on: one above the highest first action, or all 256.
+fn chain_count(rows: &[u16], transitions: usize) -> usize
+    requires { ⌜ (transitions ≤ 1024) × (6 * transitions ≤ length (now rows)) ⌝ }
+    ensures { λ r. ⌜ (r ≤ 256) × FirstsBelow (now (rows .entry)) transitions r ⌝ }
+{
+    let mut above = 0;
+    let mut t = 0;
+    while t < transitions {
+        above = greater(above, rows::number(rows, t, 1) + 1);
+        t += 1;
+    }
+    if above < 256 { above } else { 256 }
+}
+
 fn chains_differ(
     rows: &[u16],
     transitions: usize,
     head: &[u16; 256],
     next: &[u16; 1024],
+    chains: usize,
     stamps: &mut [u16],
 ) -> bool
     requires { ⌜ (transitions ≤ 1024) × (6 * transitions ≤ length (now rows)) × (257 ≤ length (now stamps)) ⌝ }
     requires { ⌜ Chains (now rows) transitions (now head) (now next) ⌝ }
     requires { ⌜ ((j : ℕ) → getD (now stamps) j 0 ≤ 0) ⌝ }
+    requires { ⌜ (chains ≤ 256) × FirstsBelow (now rows) transitions chains ⌝ }
     ensures { λ r. ⌜ r ≡ pairs-pass (now (rows .entry)) transitions ⌝ }
 {
     let mut first: usize = 0;
-    while first < 256 {
+    while first < chains {
         if chain_differs(rows, transitions, head, next, first, stamps) {
             first += 1;
         } else {
@@ -88,5 +110,6 @@ pub fn differ(rows: &[u16], transitions: usize) -> bool
     let mut next = no_nexts();
     chains::index_by_first(rows, transitions, &mut head, &mut next);
     let mut stamps = no_stamps();
-    chains_differ(rows, transitions, &head, &next, &mut stamps)
+    let chains = chain_count(rows, transitions);
+    chains_differ(rows, transitions, &head, &next, chains, &mut stamps)
 }

@@ -1,10 +1,10 @@
 // The rows of a net's transitions, six numbers each, with their lists of places in the arcs.
 ghost use mathlib.Core.Path.{_≡_};
 ghost use Prim.Native.Nat.{_+_, _*_, _<_, _≤_};
-ghost use lib.ListN.{length};
+ghost use lib.ListN.{length, getD, drop};
 ghost use Rattle.net.specs.Check.{rising};
 ghost use Rattle.net.specs.Chains.{in-row};
-ghost use Rattle.net.specs.Passes.{codes-pass, list-passes, row-passes, rows-pass};
+ghost use Rattle.net.specs.Passes.{climbs, codes-pass, list-passes, row-passes, rows-pass};
 
 fn wide(x: u16) -> usize
     ensures { λ r. ⌜ (r ≡ x) × (r < 65536) ⌝ }
@@ -21,22 +21,29 @@ pub fn number(rows: &[u16], t: usize, k: usize) -> usize
     wide(rows[6 * t + k])
 }
 
-// Each place number is above the one before it and below the number of places.
+// Each place number is above the one before it. All are compared, with no way out before the end, so that the machine can compare many at once.
+fn each_above(list: &[u16]) -> bool
+    requires { ⌜ 1 ≤ length (now list) ⌝ }
+    ensures { λ r. ⌜ r ≡ climbs (getD (now (list .entry)) 0 0) (drop 1 (now (list .entry))) ⌝ }
+{
+    let mut above = true;
+    let mut i = 1;
+    while i < list.len() {
+        above = above & (list[i - 1] < list[i]);
+        i += 1;
+    }
+    above
+}
+
+// Each place number is above the one before it and below the number of places: so the last one is.
 fn rise(list: &[u16], places: usize) -> bool
     ensures { λ r. ⌜ r ≡ rising 0 places (now (list .entry)) ⌝ }
 {
-    let mut least: usize = 0;
-    let mut i = 0;
-    while i < list.len() {
-        let place = wide(list[i]);
-        if (least <= place) & (place < places) {
-            least = place + 1;
-            i += 1;
-        } else {
-            return false;
-        }
+    let count = list.len();
+    if count == 0 {
+        return true;
     }
-    true
+    each_above(list) & (wide(list[count - 1]) < places)
 }
 
 fn list_fits(list: &[u16], places: usize) -> bool

@@ -10,7 +10,9 @@ ghost use Rattle.run.specs.Says.{ran-says};
 ghost use Rattle.replay.specs.Replay;
 ghost use Rattle.compile.specs.Built.{BuiltIs, Stands, found-room};
 ghost use Rattle.replay.specs.OnANet.{Holds, RunIs, ReplayIs, Leaves};
+use compile::MIDDLE_PLAN;
 use compile::SMALL_PLAN;
+use compile::WIDE_PLAN;
 use compile::building::Built;
 use compile::building::build;
 use compile::building::found_room;
@@ -135,13 +137,64 @@ fn replay_large(plan: &[u8], record: &[u8], marking: &mut [u8]) -> Ran
     replay_built(built, &rows, &arcs, record, marking)
 }
 
-// The whole call. The net is made once, in the library's own work room; a small plan's is tried in a small room first.
-pub fn replay(plan: &[u8], record: &[u8], marking: &mut [u8]) -> Ran
-    ensures verdict { λ r. ⌜ ran-says r ≡ Replay.replay (now (plan .entry)) (now («record» .entry)) (now (marking .entry)) .verdict ⌝ }
-    ensures buffer { λ r. ⌜ now (marking .exit) ≡ Replay.replay (now (plan .entry)) (now («record» .entry)) (now (marking .entry)) .buffer ⌝ }
+// In room for 512 transitions and 8,192 arcs, if that is enough.
+fn replay_wide(plan: &[u8], record: &[u8], marking: &mut [u8]) -> Ran
+    ensures { λ r. ⌜ Leaves (now (plan .entry)) (now («record» .entry)) (now (marking .entry)) r (now (marking .exit)) ⌝ }
+{
+    if WIDE_PLAN < plan.len() {
+        return replay_large(plan, record, marking);
+    }
+    let mut table = [0u16; 2 * WIDE_PLAN];
+    let mut counts = [0u16; WIDE_PLAN];
+    let mut list = [0u16; 1536];
+    let mut rows = [0u16; 3072];
+    let mut arcs = [0u16; 8192];
+    let built = build(
+        plan,
+        &mut table,
+        &mut counts,
+        &mut list,
+        &mut rows,
+        &mut arcs,
+    );
+    if found_room(built) {
+        return replay_built(built, &rows, &arcs, record, marking);
+    }
+    replay_large(plan, record, marking)
+}
+
+// In room for 256 transitions and 4,096 arcs, if that is enough.
+fn replay_middle(plan: &[u8], record: &[u8], marking: &mut [u8]) -> Ran
+    ensures { λ r. ⌜ Leaves (now (plan .entry)) (now («record» .entry)) (now (marking .entry)) r (now (marking .exit)) ⌝ }
+{
+    if MIDDLE_PLAN < plan.len() {
+        return replay_wide(plan, record, marking);
+    }
+    let mut table = [0u16; 2 * MIDDLE_PLAN];
+    let mut counts = [0u16; MIDDLE_PLAN];
+    let mut list = [0u16; 768];
+    let mut rows = [0u16; 1536];
+    let mut arcs = [0u16; 4096];
+    let built = build(
+        plan,
+        &mut table,
+        &mut counts,
+        &mut list,
+        &mut rows,
+        &mut arcs,
+    );
+    if found_room(built) {
+        return replay_built(built, &rows, &arcs, record, marking);
+    }
+    replay_wide(plan, record, marking)
+}
+
+// In room for 64 transitions and 1,024 arcs, if that is enough.
+fn replay_small(plan: &[u8], record: &[u8], marking: &mut [u8]) -> Ran
+    ensures { λ r. ⌜ Leaves (now (plan .entry)) (now («record» .entry)) (now (marking .entry)) r (now (marking .exit)) ⌝ }
 {
     if SMALL_PLAN < plan.len() {
-        return replay_large(plan, record, marking);
+        return replay_middle(plan, record, marking);
     }
     let mut table = [0u16; 2 * SMALL_PLAN];
     let mut counts = [0u16; SMALL_PLAN];
@@ -159,5 +212,13 @@ pub fn replay(plan: &[u8], record: &[u8], marking: &mut [u8]) -> Ran
     if found_room(built) {
         return replay_built(built, &rows, &arcs, record, marking);
     }
-    replay_large(plan, record, marking)
+    replay_middle(plan, record, marking)
+}
+
+// The whole call. The net is made once, in the library's own work room, whose size goes by the plan's.
+pub fn replay(plan: &[u8], record: &[u8], marking: &mut [u8]) -> Ran
+    ensures verdict { λ r. ⌜ ran-says r ≡ Replay.replay (now (plan .entry)) (now («record» .entry)) (now (marking .entry)) .verdict ⌝ }
+    ensures buffer { λ r. ⌜ now (marking .exit) ≡ Replay.replay (now (plan .entry)) (now («record» .entry)) (now (marking .entry)) .buffer ⌝ }
+{
+    replay_small(plan, record, marking)
 }

@@ -6,16 +6,17 @@ use borrow.Author.Needs.{needs}
 use lib.ListN.{length, getD}
 use Rattle.net.specs.Passes.{seconds-differ, each, pairs-pass}
 use Rattle.net.proofs.Turns.{goes-on, stops}
-use Rattle.net.proofs.Stamps.{each-turn, each-end}
+use Rattle.net.proofs.Stamps.{each-turn}
+use Rattle.net.proofs.EmptyChains.{rest-empty}
 use Rattle.net.proofs.pairs.chains_differ.Statement.{statement}
 use Rattle.net.proofs.pairs.chains_differ.Tie as tie
 
 abbrev Inv-loop : tie.InvT-loop
-Inv-loop rows transitions head next stamps₀ first₀ stamps first =
-    (first ≤ 256) × (length stamps ≡ length stamps₀) × ((j : ℕ) → getD stamps j 0 ≤ first) × (pairs-pass rows transitions ≡ each (seconds-differ rows transitions) first (256 - first))
+Inv-loop rows transitions head next chains stamps₀ first₀ stamps first =
+    (first ≤ chains) × (length stamps ≡ length stamps₀) × ((j : ℕ) → getD stamps j 0 ≤ first) × (pairs-pass rows transitions ≡ each (seconds-differ rows transitions) first (256 - first))
 
 abbrev μ-loop : tie.MeasureT-loop
-μ-loop rows transitions head next stamps₀ first₀ stamps first = 256 - first
+μ-loop rows transitions head next chains stamps₀ first₀ stamps first = chains - first
 
 loop-again : tie.Need-loop-again Inv-loop μ-loop
 loop-again c =
@@ -29,7 +30,7 @@ chains-differ-spec =
     (tie.spec
     Inv-loop
     μ-loop
-    (λ c. (omega arith, refl, c .before .before .pre .1 .1, refl))
+    (λ c. (omega arith, refl, c .before .before .pre .1 .1 .0, refl))
     (λ c κs.
     let l = c .before .before .loop in
     let s = c .before .before .before .before .before in
@@ -42,4 +43,6 @@ chains-differ-spec =
     let l = c .before .before .before .before .before .before .loop in
     stops _ _ (l .inv .3) (each-turn _ 256 (l .first) (omega arith)) (sym (c .before .before .before .chain-differs .ensures .0) ∙ c .if1 .left))
     (λ c. c .before .loop .inv .1)
-    (λ c. let l = c .before .loop in sym (l .inv .3 ∙ each-end _ 256 (l .first) (c .loop-test .left))))
+    (λ c. let l = c .before .loop in
+    let s = c .before .before .before .before in
+    sym (l .inv .3 ∙ rest-empty (s .args .rows .now) (s .args .transitions) (s .args .chains) (l .first) (s .pre .1 .1 .1 .1) (omega arith) (omega arith))))

@@ -12,6 +12,7 @@ differ-spec =
     (λ c κs. search needs)
     (λ c κs. search needs)
     (λ c κs. search needs)
+    (λ c κs. search needs)
     (λ c. search needs)
-    (λ c κs. (search needs, (c .before .before .before .before .index-by-first .ensures .0, stamps-none 257 _ (c .before .before .before .no-stamps .ensures))))
+    (λ c κs. (search needs, (c .before .before .before .before .before .index-by-first .ensures .0, (stamps-none 257 _ (c .before .before .before .before .no-stamps .ensures), c .before .before .before .chain-count .ensures))))
     (λ c. search needs))

@@ -1,33 +1,44 @@
--- `rise`: the whole is what is left, from the least number that may come. Assumes nothing.
-use Prim.Native.Nat.{_≤_, _-_}
-use mathlib.Core.Path.{_≡_, refl, sym, _∙_}
-use lib.ListN.{length, drop}
+-- `rise`: a list with nothing in it rises, and one with something by its last number. Assumes nothing.
+use mathlib.Core.Path.{_≡_, sym, ap, ap₂, _∙_}
+use mathlib.Core.Bool.{_&&_}
+use lib.Dec.{ltb}
+use Rattle.net.proofs.Climbs.{rising-is, rising-none}
 use borrow.Author.Needs.{needs}
-use native.Mathlib.Omega.{arith}
-use Rattle.net.specs.Check.{rising}
-use Rattle.net.proofs.Turns.{goes-on, stops, rising-turn, rising-end}
 use Rattle.net.proofs.rows.rise.Statement.{statement}
 use Rattle.net.proofs.rows.rise.Tie as tie
 
-abbrev Inv-loop : tie.InvT-loop
-Inv-loop list places least₀ i₀ least i = (i ≤ length list) × (rising 0 places list ≡ rising least places (drop i list))
+returns : tie.Need-returns
+returns c = let a = c .before .before .args in rising-none (a .list .now) (a .places) (c .if1 .taken)
 
-abbrev μ-loop : tie.MeasureT-loop
-μ-loop list places least₀ i₀ least i = length list - i
+each-above-requires : tie.Need-each-above-requires
+each-above-requires c κs = search needs
+
+sub-wide : tie.Need-sub-wide
+sub-wide c = search needs
+
+mul-wide : tie.Need-mul-wide
+mul-wide c = search needs
+
+shared-slice-read-wide : tie.Need-shared-slice-read-wide
+shared-slice-read-wide c = search needs
+
+wide-requires : tie.Need-wide-requires
+wide-requires c κs = search needs
+
+returns-2 : tie.Need-returns-2
+returns-2 c =
+    let a = c .before .before .before .before .before .args in
+    ap₂ (λ b n. b && ltb n (a .places)) (c .before .before .each-above .ensures) (c .wide .ensures .0)
+    ∙ sym (rising-is (a .list .now) (a .places) (c .before .before .before .if1 .left))
 
 pub rise-spec : {M : Type 1} → statement M
 rise-spec =
     tie.close
     (tie.spec
-    Inv-loop
-    μ-loop
-    (λ c. (omega arith, refl))
-    (λ c. search needs)
-    (λ c. search needs)
-    (λ c κs. search needs)
-    (λ c. search needs)
-    (λ c. search needs)
-    (λ c. search needs)
-    (λ c. let l = c .before .before .before .before .loop in (omega arith, goes-on _ _ (l .inv .1) (rising-turn _ (l .i) (l .least) _ (omega arith) _ (c .before .wide .ensures .0)) (c .if1 .taken)))
-    (λ c. let l = c .before .before .before .before .loop in stops _ _ (l .inv .1) (rising-turn _ (l .i) (l .least) _ (omega arith) _ (c .before .wide .ensures .0)) (c .if1 .left))
-    (λ c. let l = c .before .loop in sym (l .inv .1 ∙ rising-end _ (l .i) (l .least) _ (c .loop-test .left))))
+    returns
+    each-above-requires
+    sub-wide
+    mul-wide
+    shared-slice-read-wide
+    wide-requires
+    returns-2)

@@ -1,9 +1,9 @@
--- `replay`: in a small room if that is enough, and else in room for any net.
+-- `replay_wide`: what is built in this room is replayed, and where it is too short the next larger one is taken.
 -- Assumes nothing.
 use mathlib.Core.Path.{sym, _∙_}
 use borrow.Author.Needs.{needs}
-use Rattle.replay.proofs.replay.Statement.{statement}
-use Rattle.replay.proofs.replay.Tie as tie
+use Rattle.replay.proofs.replay_wide.Statement.{statement}
+use Rattle.replay.proofs.replay_wide.Tie as tie
 
 replay-large-requires : tie.Need-replay-large-requires
 replay-large-requires c κs = search needs
@@ -49,8 +49,7 @@ same-length-2 c = search needs
 
 returns-2 : tie.Need-returns-2
 returns-2 c =
-    let l = c .before .before .replay-built .ensures (c .before .before .before .before .before .before .before .before .before .before .before .before .before .before .before .before .before .before .before .before .before .before .before .args .plan .now) (c .before .before .before .before .before .before .before .before .before .before .before .before .before .build .ensures .0) (sym (c .before .before .before .before .before .before .before .found-room .ensures) ∙ c .before .before .before .before .before .before .if2 .taken) in
-    (l .verdict, l .buffer-is)
+    c .before .before .replay-built .ensures (c .before .before .before .before .before .before .before .before .before .before .before .before .before .before .before .before .before .before .before .before .before .before .before .args .plan .now) (c .before .before .before .before .before .before .before .before .before .before .before .before .before .build .ensures .0) (sym (c .before .before .before .before .before .before .before .found-room .ensures) ∙ c .before .before .before .before .before .before .if2 .taken)
 
 replay-large-requires-2 : tie.Need-replay-large-requires-2
 replay-large-requires-2 c κs = search needs
@@ -61,8 +60,8 @@ same-length-3 c = search needs
 returns-3 : tie.Need-returns-3
 returns-3 c = search needs
 
-pub replay-spec : {M : Type 1} → statement M
-replay-spec =
+pub replay-wide-spec : {M : Type 1} → statement M
+replay-wide-spec =
     tie.close
     (tie.spec
     replay-large-requires
