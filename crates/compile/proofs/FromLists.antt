@@ -11,16 +11,17 @@ use Rattle.algebra.specs.Net.{Transition}
 use Rattle.algebra.specs.Places.{places}
 use Rattle.algebra.specs.Transitions.{Labelled}
 use Rattle.algebra.specs.Arcs.{numbers, by-item, transition-of}
-use Rattle.net.specs.Tables.{item-of}
+use Rattle.net.specs.Tables.{none, item-of}
 use Rattle.arcs.specs.Asked.{Acts, Of, Asked}
 use Rattle.arcs.specs.Merge.{union}
 use Rattle.arcs.specs.Moves.{passes}
 use Rattle.arcs.specs.declared.moves.Side.{Side}
 use Rattle.arcs.specs.declared.moves.Side.the-variants.{Inputs, Outputs}
 use Rattle.arcs.proofs.Merges.{union-numbers}
+use Rattle.arcs.proofs.Transitions.{item-of-one, item-of-two}
 use Rattle.spread.specs.Spread as spread
 use Rattle.spread.specs.Spread.{Part, Places, Spreads}
-use Rattle.compile.specs.Rows.{item-at, listed-at, listed-from, Put, PutArcs, OfAll, AskedAll, PutAll, made}
+use Rattle.compile.specs.Rows.{item-at, listed-at, listed-from, Put, PutArcs, PutSide, OfAll, AskedAll, PutAll}
 use Rattle.compile.specs.Lists.{told-at, list-at, Inside, item-places, ItemInside, listed-transition, ItemPlaces, Below}
 
 -- ---- the part of the lists that is read
@@ -37,7 +38,18 @@ module _ (lists index : List ℕ) (side : Side) (i : ℕ) {k start count : ℕ} 
   pub part-is : take (start + count - start) (drop start lists) ≡ list-at lists index (told-at side i)
   part-is = let e : start + count - start ≡ count = omega arith in ap (λ n. take n (drop start lists)) e ∙ ap₂ (λ n s. take n (drop s lists)) count-is start-is
 
--- The arcs of an item, told by its actions as they were read.
+-- ---- the actions of an item, as they were read
+module _ (lists index : List ℕ) (side : Side) (i j : ℕ) {limit end at : ℕ} {arcs arcs′ : List ℕ} where
+  as-item : {item : Item} {l : List ℕ} → l ≡ item-places lists index side item → item-of i j ≡ item → PutSide limit end at l arcs arcs′ → PutSide limit end at (item-places lists index side (item-of i j)) arcs arcs′
+  as-item f e p = subst (λ x. PutSide limit end at x arcs arcs′) (f ∙ ap (item-places lists index side) (sym e)) p
+
+  pub one-side : j ≡ none → {l : List ℕ} → l ≡ list-at lists index (told-at side i) → PutSide limit end at l arcs arcs′ → PutSide limit end at (item-places lists index side (item-of i j)) arcs arcs′
+  one-side h e p = as-item {item = one i} e (item-of-one i j h) p
+
+  pub two-sides : (j ≡ none → ⊥) → {l m : List ℕ} → l ≡ list-at lists index (told-at side i) → m ≡ list-at lists index (told-at side j) → PutSide limit end at (union l m) arcs arcs′
+      → PutSide limit end at (item-places lists index side (item-of i j)) arcs arcs′
+  two-sides h e f p = as-item {item = two i j} (ap₂ union e f) (item-of-two i j h) p
+
 pub same-item : (lists index : List ℕ) {item other : Item} → item ≡ other → {limit middle end at : ℕ} {arcs arcs′ : List ℕ}
     → PutArcs limit middle end at (item-places lists index Inputs item) (item-places lists index Outputs item) arcs arcs′
     → PutArcs limit middle end at (item-places lists index Inputs other) (item-places lists index Outputs other) arcs arcs′

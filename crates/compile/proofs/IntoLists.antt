@@ -6,7 +6,7 @@ use native.Mathlib.Decide.{decLt}
 use mathlib.Core.Path.{_≡_, refl, sym, _∙_, ap, ap₂, subst}
 use mathlib.Core.Logic.{_⊎_, inl, inr}
 use mathlib.Core.List.{List, [], _∷_, _++_, append-assoc}
-use lib.ListN.{length, getD, take, drop, set, length-set, length-take}
+use lib.ListN.{length, getD, take, drop, set, length-set}
 use lib.Seq.{sets, sets-eq, length-sets, take-at, drop-at, take-set-le, drop-set-add, getD-set-same, getD-set-other, length-take-le}
 use Rattle.algebra.specs.Expr.{Expr}
 use Rattle.algebra.specs.Item.{Item, one, two, first}

@@ -1,6 +1,6 @@
 -- The rows and the arcs of the transitions, put one behind another: what each store leaves is what the rows and arcs of all of them leave.
 -- True because stores one behind another are one store of the lists joined, and a transition's arcs end where those of the next one start.
-use Prim.Native.Nat.{ℕ, zero, suc, _+_, _-_, _*_, _≤_, _<_}
+use Prim.Native.Nat.{ℕ, suc, _+_, _-_, _*_, _≤_, _<_}
 use native.Mathlib.Omega.{arith}
 use mathlib.Core.Path.{_≡_, refl, sym, _∙_, ap, subst}
 use mathlib.Core.Bool.{Bool, true, false}
@@ -9,7 +9,7 @@ use lib.ListN.{length, getD, take, drop, length-append, length-drop}
 use lib.Seq.{sets}
 use lib.Dec.{eqb}
 use borrow.Author.Tests.{eqb-true}
-use Rattle.algebra.specs.Item.{Item, first}
+use Rattle.algebra.specs.Item.{first}
 use Rattle.algebra.specs.Net.{Transition}
 use Rattle.algebra.specs.Transitions.{Labelled}
 use Rattle.net.specs.Tables.{none, second, item-of, rows-from, arcs-from}
@@ -21,9 +21,6 @@ use Rattle.compile.proofs.Runs.{sets-both}
 -- ---- one side of a transition
 pub one-put : {limit end at : ℕ} {places arcs arcs′ : List ℕ} → end ≡ at + length places → (end ≤ limit → arcs′ ≡ sets arcs at places) → PutSide limit end at places arcs arcs′
 one-put e f = record { ends = λ _. e; written = f; beyond = λ h. omega arith }
-
-pub same-places : {limit end at : ℕ} {places others arcs arcs′ : List ℕ} → places ≡ others → PutSide limit end at places arcs arcs′ → PutSide limit end at others arcs arcs′
-same-places {limit} {end} {at} {arcs = arcs} {arcs′} e p = subst (λ l. PutSide limit end at l arcs arcs′) e p
 
 module _ (arcs : List ℕ) (at : ℕ) (in-arcs : at ≤ length arcs) {count : ℕ} {l after : List ℕ} (m : Merged (length (part arcs at)) count l (part arcs at) after) where
   room-is : length (part arcs at) ≡ length arcs - at

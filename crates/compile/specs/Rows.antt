@@ -14,7 +14,7 @@ use Rattle.algebra.specs.Arcs.{transition-of}
 use Rattle.net.specs.Tables.{item-of, rows-from, arcs-from}
 use Rattle.plan.specs.Table.{Table}
 use Rattle.boxes.specs.NodeCounts.{node-counts}
-use Rattle.arcs.specs.Asked.{Acts, Of}
+use Rattle.arcs.specs.Asked.{Acts}
 
 -- Transition t of the list, three numbers to each, and so many from t on.
 abbrev pub item-at : List ℕ → ℕ → Item

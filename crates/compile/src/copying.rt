@@ -4,13 +4,6 @@ ghost use Prim.Native.Nat.{_+_, _≤_};
 ghost use lib.ListN.{length, take};
 ghost use lib.Seq.{sets};
 
-// An array that is lent as a slice tells its length to the proof.
-pub fn numbers_in(s: &[u16]) -> usize
-    ensures { λ r. ⌜ r ≡ length (now (s .entry)) ⌝ }
-{
-    s.len()
-}
-
 // The first so many numbers of a list, put into another from a place on.
 pub fn put(out: &mut [u16], start: usize, list: &[u16], count: usize)
     requires { ⌜ (start + count ≤ length (now out)) × (count ≤ length (now list)) ⌝ }

@@ -1,7 +1,6 @@
 // The transitions of a plan with work room for the places of its actions, as much as there is for the arcs, so that a plan of few arcs does
 // not pay for the clearing of much. Where the places do not fit, the next larger room is tried, and where they do not fit the largest,
 // since scopes take most of them away, they are searched for.
-use crate::copying::numbers_in;
 use crate::rows::put_listed;
 use crate::searched::put_searched;
 use spread::spread;
@@ -9,7 +8,7 @@ ghost use Prim.Native.Nat.{_≤_};
 ghost use lib.ListN.{length};
 ghost use Rattle.compile.specs.Rows.{Putable, PutAll};
 
-// With an array to search in.
+// Where the places do not fit the largest room: with an array to search in.
 fn put_unlisted(
     table: &[u16],
     nodes: usize,
@@ -40,6 +39,7 @@ fn put_unlisted(
     )
 }
 
+// In room for as many places as a net may have arcs.
 fn put_large(
     table: &[u16],
     nodes: usize,
@@ -70,6 +70,7 @@ fn put_large(
     )
 }
 
+// In room for the places of 256 actions with 4,096 arcs.
 fn put_wide(
     table: &[u16],
     nodes: usize,
@@ -93,6 +94,7 @@ fn put_wide(
     put_large(table, nodes, counts, list, many, rows, arcs)
 }
 
+// In room for those of 64 actions with 1,024 arcs.
 fn put_middle(
     table: &[u16],
     nodes: usize,
@@ -116,7 +118,7 @@ fn put_middle(
     put_wide(table, nodes, counts, list, many, rows, arcs)
 }
 
-// All transitions of the list. Answers where the arcs end, or a number above the room for arcs as soon as they pass it.
+// All transitions of the list, at first with room for 16 actions with 256 arcs. Answers where the arcs end, or a number above the room for arcs as soon as they pass it.
 pub fn put_transitions(
     table: &[u16],
     nodes: usize,

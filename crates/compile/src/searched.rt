@@ -6,7 +6,6 @@ use crate::rows::put_transition;
 use arcs::arcs_of_action;
 use arcs::moves::Side;
 use plan::exclusive::wide;
-ghost use mathlib.Core.Path.{_≡_};
 ghost use Prim.Native.Nat.{_+_, _*_, _<_, _≤_};
 ghost use lib.ListN.{length};
 ghost use Rattle.algebra.specs.Expr.{Expr};

@@ -1,13 +1,11 @@
 -- `put_side` meets its contract: an item has one action, or two.
 -- Assumes nothing.
 use native.Mathlib.Omega.{arith}
-use mathlib.Core.Path.{sym, _∙_, ap, ap₂, subst}
+use mathlib.Core.Path.{subst}
 use borrow.Author.Needs.{needs}
-use Rattle.net.specs.Tables.{item-of}
-use Rattle.arcs.specs.Merge.{union}
 use Rattle.arcs.proofs.Transitions.{item-of-one, item-of-two}
-use Rattle.compile.specs.Lists.{item-places, ItemInside}
-use Rattle.compile.proofs.Puts.{same-places}
+use Rattle.compile.specs.Lists.{ItemInside}
+use Rattle.compile.proofs.FromLists.{one-side, two-sides}
 use Rattle.compile.proofs.rows.put_side.Statement.{statement}
 use Rattle.compile.proofs.rows.put_side.Tie as tie
 
@@ -20,9 +18,7 @@ put-side-spec =
     (subst (ItemInside (a .lists .now) (a .index .now)) (item-of-one (a .first) (a .second) (c .if1 .taken)) (c .before .before .before .before .pre .0) (a .side), omega arith))
     (λ c κs. search needs)
     (λ c. search needs)
-    (λ c.
-    let a = c .before .before .before .before .before .before .before .before .before .args in
-    same-places (c .before .before .before .before .list-of .ensures ∙ ap (item-places (a .lists .now) (a .index .now) (a .side)) (sym (item-of-one (a .first) (a .second) (c .before .before .before .before .before .if1 .taken)))) (c .before .before .put-one .ensures))
+    (λ c. let a = c .before .before .before .before .before .before .before .before .before .args in one-side (a .lists .now) (a .index .now) (a .side) (a .first) (a .second) (c .before .before .before .before .before .if1 .taken) (c .before .before .before .before .list-of .ensures) (c .before .before .put-one .ensures))
     (λ c κs.
     let a = c .before .before .before .before .args in
     (subst (ItemInside (a .lists .now) (a .index .now)) (item-of-two (a .first) (a .second) (c .if1 .left)) (c .before .before .before .before .pre .0) .0 (a .side), omega arith))
@@ -31,6 +27,4 @@ put-side-spec =
     (subst (ItemInside (a .lists .now) (a .index .now)) (item-of-two (a .first) (a .second) (c .before .if1 .left)) (c .before .before .before .before .before .pre .0) .1 (a .side), omega arith))
     (λ c κs. search needs)
     (λ c. search needs)
-    (λ c.
-    let a = c .before .before .before .before .before .before .before .before .before .before .args in
-    same-places (ap₂ union (c .before .before .before .before .before .list-of2 .ensures) (c .before .before .before .before .list-of3 .ensures) ∙ ap (item-places (a .lists .now) (a .index .now) (a .side)) (sym (item-of-two (a .first) (a .second) (c .before .before .before .before .before .before .if1 .left)))) (c .before .before .put-two .ensures)))
+    (λ c. let a = c .before .before .before .before .before .before .before .before .before .before .args in two-sides (a .lists .now) (a .index .now) (a .side) (a .first) (a .second) (c .before .before .before .before .before .before .if1 .left) (c .before .before .before .before .before .list-of2 .ensures) (c .before .before .before .before .list-of3 .ensures) (c .before .before .put-two .ensures)))

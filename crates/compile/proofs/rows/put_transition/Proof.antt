@@ -2,7 +2,7 @@
 -- The two actions are read from the list as they stand. Assumes nothing.
 use Prim.Native.Nat.{_≤_}
 use native.Mathlib.Omega.{arith}
-use mathlib.Core.Path.{_≡_, refl, sym, ap₂, subst}
+use mathlib.Core.Path.{refl, sym, ap₂, subst}
 use borrow.Author.Needs.{needs}
 use Rattle.net.specs.Tables.{item-of}
 use Rattle.compile.specs.Lists.{ItemInside}

@@ -1,6 +1,5 @@
 -- `list_action` meets its contract: what is found on either side is put into the lists, and the index is told of both.
 -- What is found is no more than there are places, so that it fits. Assumes nothing.
-use Prim.Native.Nat.{_≤_}
 use native.Mathlib.Omega.{arith}
 use borrow.Author.Needs.{needs}
 use Rattle.arcs.specs.declared.moves.Side.the-variants.{Inputs, Outputs}
