@@ -1,18 +1,21 @@
--- A list goes up the path in place: one level is a stretch and a repeat, and the levels above it do the rest.
--- True by the two changes one after the other, and by the tests that tell whether there is a level above.
-use Prim.Native.Nat.{ℕ, zero, suc, _+_, _*_, _-_, _<_}
+-- A list goes up the path in place: one row is a stretch and a repeat, and the rows that it goes on with do the rest.
+-- True by the two changes one after the other, and because a row goes on with an earlier one.
+use Prim.Native.Nat.{ℕ, zero, suc, _+_, _*_, _≤_, _<_}
 use native.Mathlib.Omega.{arith}
+use native.Mathlib.Nat.{zero-mul}
 use mathlib.Core.Path.{_≡_, refl, sym, _∙_, ap, ap₂, subst}
 use mathlib.Core.Bool.{Bool, true, false}
-use mathlib.Core.List.{List, [], _∷_}
+use mathlib.Core.List.{List, [], _∷_, append-nil}
 use lib.ListN.{length, getD, set, length-set}
 use lib.Seq.{getD-set-same, getD-set-other}
-use borrow.Author.Tests.{eq-eqb, ne-eqb}
 use Rattle.plan.specs.Table.{Stands}
-use Rattle.arcs.specs.Positions.{stretched, repeated}
-use Rattle.spread.specs.Path.{risen, image}
-use Rattle.spread.specs.Room.{Fits, Made, Changes}
-use Rattle.spread.proofs.Rooms.{changes-then}
+use Rattle.arcs.specs.Positions.{run, stretched, repeated}
+use Rattle.arcs.proofs.Positions.{run-length, run-at}
+use Rattle.spread.specs.Path.{laid, risen, final}
+use Rattle.spread.specs.Room.{Ran, Fits, Made, Changes}
+use Rattle.spread.proofs.Rooms.{changes-then, made-then}
+use Rattle.spread.proofs.Images.{final-none, final-at}
+use Rattle.spread.proofs.Shifts.{laid-as, repeated-once}
 
 pub fits-then : {before middle after : List ℕ} {at n r : ℕ} → Fits before middle at n → Fits middle after at r → Fits before after at r
 fits-then a b = record { long = b .long ∙ a .long; inside = omega (arith, a .long, b .inside) }
@@ -20,7 +23,7 @@ fits-then a b = record { long = b .long ∙ a .long; inside = omega (arith, a .l
 pub fits-none : {before after : List ℕ} {at n r : ℕ} → Fits before after at n → r ≡ 0 → Fits before after at r
 fits-none a e = record { long = a .long; inside = omega (arith, a .inside) }
 
-pub changes-as : {before after : List ℕ} {at count r : ℕ} (f g : List ℕ → List ℕ) → ((ps : List ℕ) → f ps ≡ g ps) → Changes before after at count r f → Changes before after at count r g
+changes-as : {before after : List ℕ} {at count r : ℕ} (f g : List ℕ → List ℕ) → ((ps : List ℕ) → f ps ≡ g ps) → Changes before after at count r f → Changes before after at count r g
 changes-as {before} {after} {at} {count} {r} f g e c ps w s some = subst (Made before after at r) (e ps) (c ps w s some)
 
 module _ (path : List ℕ) (row : ℕ) where
@@ -28,56 +31,55 @@ module _ (path : List ℕ) (row : ℕ) where
       → right ≡ getD path (row + 2) 0 → off ≡ getD path (row + 4) 0 → left ≡ getD path (row + 1) 0 → step ≡ getD path (row + 3) 0
       → 0 < n → Changes before middle at count n (stretched right off) → Changes middle after at n r (repeated left step) → Changes before after at count r (risen path row)
   row-risen {left = left} {right = right} {step = step} {off = off} er eo el es some a b =
-      changes-as (λ ps. repeated left step (stretched right off ps)) (risen path row)
-      (λ ps. ap₂ (λ x y. repeated x y (stretched right off ps)) el es ∙ ap₂ (λ x y. repeated (getD path (row + 1) 0) (getD path (row + 3) 0) (stretched x y ps)) er eo)
-      (changes-then (stretched right off) (repeated left step) some a b)
+      changes-as (laid left right step off) (risen path row) (laid-as el er es eo) (changes-then (stretched right off) (repeated left step) some a b)
 
-module _ (path : List ℕ) (side : ℕ) where
-  last-image : (level : ℕ) → level ≡ 0 → (ps : List ℕ) → risen path (16 * level + side) ps ≡ image path level side ps
-  unfolding image
-  last-image zero e ps = refl
-  last-image (suc l) e ps = absurd (omega arith)
+  pub climb-none : {room : List ℕ} {at count : ℕ} → row ≡ 0 → at + count ≤ length room → Changes room room at count count (final path row)
+  climb-none {room} {at} {count} e h ps w s some =
+      let z : final path row ps ≡ ps = ap (λ x. final path x ps) e ∙ final-none path ps in
+      record { all = sym (ap length z ∙ w); inside = h; there = subst (Stands room at) (sym z) s; kept = λ j l. refl; long = refl }
 
-  stop-image : (level : ℕ) → (level ≡ 0 → ⊥) → (getD path (16 * level + side) 0 ≡ 0 → ⊥) → (ps : List ℕ) → risen path (16 * level + side) ps ≡ image path level side ps
-  unfolding image
-  stop-image zero n t ps = absurd (n refl)
-  stop-image (suc l) n t ps = rw (ne-eqb (getD path (16 * suc l + side) 0) 0 t) refl
+  module _ {up : ℕ} (u : up ≡ getD path row 0) (low : up < row) where
+    pub climb-more : {before middle after : List ℕ} {at count n r : ℕ} → 0 < n → Changes before middle at count n (risen path row) → Changes middle after at n r (final path up)
+        → Changes before after at count r (final path row)
+    climb-more some a b =
+        changes-as (λ ps. final path up (risen path row ps)) (final path row) (λ ps. sym (final-at path row up (sym u) low ps)) (changes-then (risen path row) (final path up) some a b)
 
-  more-image : (level : ℕ) → (level ≡ 0 → ⊥) → getD path (16 * level + side) 0 ≡ 0 → (ps : List ℕ) → image path (level - 1) side (risen path (16 * level + side) ps) ≡ image path level side ps
-  unfolding image
-  more-image zero n t ps = absurd (n refl)
-  more-image (suc l) n t ps =
-      let e : suc l - 1 ≡ l = omega arith in
-      rw (eq-eqb (getD path (16 * suc l + side) 0) 0 t) (ap (λ m. image path m side (risen path (16 * suc l + side) ps)) e)
+    module _ {left right step off : ℕ} (er : right ≡ getD path (row + 2) 0) (eo : off ≡ getD path (row + 4) 0) (el : left ≡ getD path (row + 1) 0) (es : step ≡ getD path (row + 3) 0) where
+      -- An action's own place: position 0 becomes a run.
+      one-run : stretched right off (0 ∷ []) ≡ run off right
+      unfolding stretched
+      one-run = let z : 0 * right + off ≡ off = omega (arith, zero-mul right) in append-nil (run (0 * right + off) right) ∙ ap (λ x. run x right) z
 
-  module _ (level : ℕ) {before after : List ℕ} {at count : ℕ} where
-    pub climb-last : {r : ℕ} → level ≡ 0 → Changes before after at count r (risen path (16 * level + side)) → Changes before after at count r (image path level side)
-    climb-last e c = changes-as (risen path (16 * level + side)) (image path level side) (last-image level e) c
+      first-final : final path up (repeated left step (run off right)) ≡ final path row (0 ∷ [])
+      first-final =
+          ap (λ l. final path up (repeated left step l)) (sym one-run) ∙ ap (final path up) (laid-as el er es eo (0 ∷ [])) ∙ sym (final-at path row up (sym u) low (0 ∷ []))
 
-    pub climb-stop : {r x : ℕ} → (level ≡ 0 → ⊥) → (x ≡ 0 → ⊥) → x ≡ getD path (16 * level + side) 0 → Changes before after at count r (risen path (16 * level + side)) → Changes before after at count r (image path level side)
-    climb-stop n t e c = changes-as (risen path (16 * level + side)) (image path level side) (stop-image level n (λ z. t (e ∙ z))) c
+      pub many-made : {room first middle after : List ℕ} {at n r : ℕ} → at + right ≤ length room → Ran room first at off right → 0 < n → Changes first middle at right n (repeated left step)
+          → Changes middle after at n r (final path up) → 0 < r → Made room after at r (final path row (0 ∷ []))
+      many-made {room} {first} {middle} {after} {at} {n} {r} h ran some a b t =
+          let l = run-length off right in
+          let there : Stands first at (run off right) = λ j z. ran .new j (omega (arith, l)) ∙ sym (run-at off right j (omega (arith, l))) in
+          let begun : Made room first at right (run off right) = record { all = sym l; inside = omega (arith, ran .long); there = there; kept = ran .low; long = ran .long } in
+          let c = changes-then (repeated left step) (final path up) some a b (run off right) l there t in
+          subst (Made room after at r) first-final (made-then begun c)
 
-    pub climb-more : {middle : List ℕ} {n r x : ℕ} → (level ≡ 0 → ⊥) → x ≡ 0 → x ≡ getD path (16 * level + side) 0 → 0 < n
-        → Changes before middle at count n (risen path (16 * level + side)) → Changes middle after at n r (image path (level - 1) side) → Changes before after at count r (image path level side)
-    climb-more n t e some a b =
-        changes-as (λ ps. image path (level - 1) side (risen path (16 * level + side) ps)) (image path level side) (more-image level n (sym e ∙ t))
-        (changes-then (risen path (16 * level + side)) (image path (level - 1) side) some a b)
-
--- ---- from an action's own place
-pub first-position : (room : List ℕ) (at : ℕ) → at < length room → Stands (set room at 0) at (0 ∷ [])
-first-position room at h zero l = let e : at + 0 ≡ at = omega arith in ap (λ i. getD (set room at 0) i 0) e ∙ getD-set-same room at 0 0 h
-first-position room at h (suc j) l = absurd (omega arith)
-
-pub from-first : {room after : List ℕ} {at r : ℕ} (f : List ℕ → List ℕ) → at < length room → Changes (set room at 0) after at 1 r f → 0 < r → Made room after at r (f (0 ∷ []))
-from-first {room} {after} {at} {r} f h c some =
-    let m = c (0 ∷ []) refl (first-position room at h) some in
-    record {
-      all = m .all;
-      inside = m .inside;
-      there = m .there;
-      kept = λ j l. m .kept j l ∙ getD-set-other room at j 0 0 (omega arith);
-      long = m .long ∙ length-set room at 0;
-    }
+      pub one-made : {room : List ℕ} {at : ℕ} → up ≡ 0 → left ≡ 1 → right ≡ 1 → at < length room → Made room (set room at off) at 1 (final path row (0 ∷ []))
+      unfolding run
+      one-made {room} {at} e0 e1 e2 h =
+          let z : final path row (0 ∷ []) ≡ off ∷ [] =
+          sym first-final ∙ ap (λ x. final path x (repeated left step (run off right))) e0 ∙ final-none path (repeated left step (run off right)) ∙ ap₂ (λ x y. repeated x step (run off y)) e1 e2
+          ∙ repeated-once step (off ∷ []) in
+          subst (Made room (set room at off) at 1) (sym z) (record {
+            all = refl;
+            inside = omega (arith, length-set room at off);
+            there = there h;
+            kept = λ j l. getD-set-other room at j off 0 (omega arith);
+            long = length-set room at off;
+          })
+        where
+          there : at < length room → Stands (set room at off) at (off ∷ [])
+          there b zero l = let e : at + 0 ≡ at = omega arith in ap (λ i. getD (set room at off) i 0) e ∙ getD-set-same room at off 0 b
+          there b (suc j) l = absurd (omega arith)
 
 -- A test that failed tells nothing.
 pub no-claim : {A : Type 0} → false ≡ true → A

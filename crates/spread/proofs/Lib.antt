@@ -1,10 +1,13 @@
 pub mod Rooms
-pub mod Climbs
-pub mod PathRows
-pub mod Acts
 pub mod Shifts
+pub mod Images
+pub mod RowsBelow
+pub mod KidRows
+pub mod Climbs
+pub mod Acts
+pub mod Operands
 pub mod Downs
-pub mod Kids
 pub mod Dids
+pub mod ActionWalks
 pub mod Walks
 pub mod Roots

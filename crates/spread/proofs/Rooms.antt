@@ -173,7 +173,7 @@ module _ (before : List ℕ) (at count off : ℕ) where
           ap (λ x. getD (stretched 1 off ps) x 0) e ∙ stretched-at 1 off j 0 ps h (omega arith) ∙ omega arith
 
 -- A move by nothing.
-stretched-none : (ps : List ℕ) → stretched 1 0 ps ≡ ps
+pub stretched-none : (ps : List ℕ) → stretched 1 0 ps ≡ ps
 unfolding stretched run
 stretched-none [] = refl
 stretched-none (p ∷ ps) = let e : p * 1 + 0 ≡ p = omega arith in ap₂ (λ x l. x ∷ l) e (stretched-none ps)

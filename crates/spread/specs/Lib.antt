@@ -1,4 +1,5 @@
 pub mod Path
 pub mod Room
+pub mod Kids
 pub mod Walk
 pub mod Spread

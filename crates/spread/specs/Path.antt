@@ -1,56 +1,52 @@
--- The path from the root to a node: sixteen numbers to a level, eight to a side. The first of a row is 0 where positions stay in their own list one level up,
--- and not 0 where they become final numbers; behind it stand the numbers of a move: left, right, step and off.
-use Prim.Native.Nat.{ℕ, zero, suc, _+_, _*_}
+-- The path down to a node: rows of five numbers. Row r has at r the row that it goes on with, 0 if its positions are final; behind it stand left, right, step
+-- and off. Row 0 is none.
+use Prim.Native.Nat.{ℕ, zero, suc, _+_, _*_, _≤_, _<_}
 use mathlib.Core.Path.{_≡_}
 use mathlib.Core.Bool.{cond}
 use mathlib.Core.List.{List}
-use lib.ListN.{getD, set}
+use lib.ListN.{length, getD, set}
 use lib.Dec.{eqb}
 use Rattle.arcs.specs.Positions.{stretched, repeated}
-use Rattle.arcs.specs.Search.{move-by}
-use Rattle.arcs.specs.declared.moves.Kind.{Kind}
-use Rattle.arcs.specs.declared.moves.Kind.the-variants.{Entry, Internal, Exit}
-use Rattle.arcs.specs.declared.moves.Operand.{Operand}
-use Rattle.arcs.specs.declared.moves.Move.{Move}
-use Rattle.spread.specs.declared.path.Level.{Level}
 
--- What a row does to positions.
+-- Position p becomes all a * step + p * right + b + off, with a below left and b below right.
+abbrev pub laid : ℕ → ℕ → ℕ → ℕ → List ℕ → List ℕ
+laid left right step off ps = repeated left step (stretched right off ps)
+
 abbrev pub risen : List ℕ → ℕ → List ℕ → List ℕ
-risen path row ps = repeated (getD path (row + 1) 0) (getD path (row + 3) 0) (stretched (getD path (row + 2) 0) (getD path (row + 4) 0) ps)
+risen path row ps = laid (getD path (row + 1) 0) (getD path (row + 2) 0) (getD path (row + 3) 0) (getD path (row + 4) 0) ps
 
--- What the levels up to the root make of positions.
+-- What a row, and those that it goes on with, make of positions. Each goes on with an earlier one, so that the rows up to one are all that counts.
 unfoldable pub image : List ℕ → ℕ → ℕ → List ℕ → List ℕ
-image path zero side ps = risen path (16 * 0 + side) ps
-image path (suc l) side ps =
-    cond (eqb (getD path (16 * suc l + side) 0) 0) (image path l side (risen path (16 * suc l + side) ps)) (risen path (16 * suc l + side) ps)
+image path zero row ps = ps
+image path (suc n) row ps = cond (eqb row (suc n)) (image path n (getD path row 0) (risen path row ps)) (image path n row ps)
 
--- Positions that become internal ones are final when the number of the first internal place is added.
-abbrev pub stop : Kind → ℕ
-stop Entry = 0
-stop Internal = 1
-stop Exit = 0
+abbrev pub final : List ℕ → ℕ → List ℕ → List ℕ
+final path row ps = image path row row ps
 
-abbrev pub extra : Kind → ℕ → ℕ
-extra Entry base = 0
-extra Internal base = base
-extra Exit base = 0
+abbrev pub row-put : List ℕ → ℕ → ℕ → ℕ → ℕ → ℕ → ℕ → List ℕ
+row-put path row up left right step off = set (set (set (set (set path row up) (row + 1) left) (row + 2) right) (row + 3) step) (row + 4) off
 
--- A move, put into a row.
-abbrev pub row-put : List ℕ → ℕ → Move → ℕ → List ℕ
-row-put path row m base =
-    set (set (set (set (set path row (stop (m .kind))) (row + 1) (m .left)) (row + 2) (m .right)) (row + 3) (m .step)) (row + 4) (m .off + extra (m .kind) base)
+-- Numbers of 16 bits.
+pub record Short (up left right step off : ℕ) : Type 0 where
+  pub short-up : up ≤ 65535
+  pub short-left : left ≤ 65535
+  pub short-right : right ≤ 65535
+  pub short-step : step ≤ 65535
+  pub short-off : off ≤ 65535
 
--- The level of an operand of node k, put: the moves of its entries and of its exits.
-abbrev pub level-put : List ℕ → List ℕ → ℕ → Operand → List ℕ → ℕ → ℕ → List ℕ
-level-put rows counts k operand path level base =
-    row-put (row-put path (16 * level) (move-by rows counts k operand Entry) base) (16 * level + 8) (move-by rows counts k operand Exit) base
+-- A row that is in use: it stands before the free ones, and goes on with an earlier one.
+pub record Linked (path : List ℕ) (row free : ℕ) : Type 0 where
+  pub some : 0 < row
+  pub low : row + 5 ≤ free
+  pub back : getD path row 0 < row
 
--- The final number of the operand's first internal place.
-abbrev pub base-below : List ℕ → List ℕ → ℕ → Operand → ℕ → ℕ
-base-below rows counts k operand base = base + move-by rows counts k operand Internal .off
+-- A row makes of positions what f does; the rows before the free ones are kept.
+pub record Lowers (before after : List ℕ) (free row : ℕ) (f : List ℕ → List ℕ) : Type 0 where
+  pub kept : (j : ℕ) → j < free → getD after j 0 ≡ getD before j 0
+  pub long : length after ≡ length before
+  pub linked : Linked after row (free + 5)
+  pub is : (ps : List ℕ) → final after row ps ≡ f ps
 
--- The moves of the three lists of an operand of node k.
-pub record Moves (rows counts : List ℕ) (k : ℕ) (operand : Operand) (l : Level) : Type 0 where
-  pub entry : l .entry ≡ move-by rows counts k operand Entry
-  pub inside : l .inside ≡ move-by rows counts k operand Internal
-  pub exit : l .exit ≡ move-by rows counts k operand Exit
+-- What is known of a row that is put from another one on.
+abbrev pub Lowered : List ℕ → List ℕ → ℕ → ℕ → ℕ → (List ℕ → List ℕ) → Type 0
+Lowered before after row free r f = length before ≡ 656 → Linked before row free → Lowers before after free r (λ ps. final before row (f ps))

@@ -9,9 +9,6 @@ use Rattle.algebra.specs.Places.{places}
 use Rattle.algebra.specs.Arcs.{numbers, consumes, produces}
 use Rattle.plan.specs.Table.{Table}
 use Rattle.boxes.specs.NodeCounts.{node-counts}
-use Rattle.arcs.specs.Moves.{shift}
-use Rattle.arcs.specs.declared.moves.Kind.the-variants.{Entry, Exit}
-use Rattle.spread.specs.Path.{row-put}
 
 -- The rows begin with the node table of an expression and the counts with those of its nodes; its places and its actions are within the limits.
 pub record Of (rows : List ℕ) (nodes : ℕ) (counts : List ℕ) (E : Expr) : Type 0 where
@@ -34,7 +31,3 @@ pub record Places (room index : List ℕ) (E : Expr) (i : ℕ) : Type 0 where
 -- Every action's places stand in the room.
 abbrev pub Spreads : List ℕ → ℕ → List ℕ → List ℕ → List ℕ → Type 0
 Spreads rows nodes counts room index = (E : Expr) → Of rows nodes counts E → (i : ℕ) → i < actions E → Places room index E i
-
--- The level of the root, put: its entries are numbered from 0, its exits behind the internal places.
-abbrev pub root-put : List ℕ → ℕ → List ℕ
-root-put path last = row-put (row-put path 0 (shift Entry 0) 0) 8 (shift Exit last) 0

@@ -7,7 +7,7 @@ use Rattle.field.specs.Limits.{place-limit}
 use Rattle.algebra.specs.Expr.{Expr, actions}
 use Rattle.algebra.specs.Places.{places}
 use Rattle.algebra.specs.Arcs.{numbers}
-use Rattle.plan.specs.Table.{Stands, tag-at}
+use Rattle.plan.specs.Table.{Stands, tag-at, after-at}
 use Rattle.arcs.specs.Positions.{stretched}
 use Rattle.arcs.specs.Moves.{passes, own, box, Lies}
 use Rattle.arcs.specs.Search.{At, In, first-at, child, child-by}
@@ -16,13 +16,16 @@ use Rattle.arcs.specs.declared.moves.Side.the-variants.{Inputs, Outputs}
 use Rattle.arcs.specs.declared.moves.Kind.{Kind}
 use Rattle.arcs.specs.declared.moves.Kind.the-variants.{Internal}
 use Rattle.arcs.specs.declared.moves.Operand.{Operand}
-use Rattle.spread.specs.Path.{image}
+use Rattle.spread.specs.declared.kids.Spot.{Spot}
+use Rattle.spread.specs.declared.kids.Lists.{Lists}
+use Rattle.spread.specs.Path.{final}
 use Rattle.spread.specs.Room.{Made}
+use Rattle.spread.specs.Kids.{Led}
 
--- Where a level has the row of a side, and where the index has the start of an action's list; the count stands behind it.
-abbrev pub row-of : Side → ℕ
-row-of Inputs = 0
-row-of Outputs = 8
+-- The row of a side, and where the index has the start of an action's list; the count stands behind it.
+abbrev pub row-of : Side → Spot → ℕ
+row-of Inputs s = s .entry
+row-of Outputs s = s .exit
 
 abbrev pub slot : Side → ℕ → ℕ
 slot Inputs i = 4 * i + 0
@@ -36,16 +39,16 @@ arcs R side i = numbers (passes side i) 0 (places 0 R)
 abbrev pub Stay : List ℕ → List ℕ → ℕ → ℕ → Side → ℕ → Kind → List ℕ → Type 0
 Stay rows counts nodes k side i kind ps = (m : ℕ) (F : Expr) → In rows counts nodes k i m F → Lies kind (box side i m F) ps
 
--- The path leads from the lists of node k, which is E, to the final numbers of the whole R.
-pub record Leads (rows counts : List ℕ) (nodes : ℕ) (R : Expr) (k n : ℕ) (E : Expr) (path : List ℕ) (level base : ℕ) : Type 0 where
-  pub outer : (side : Side) (i : ℕ) → n ≤ i → i < n + actions E → (ps : List ℕ) → Stay rows counts nodes k side i (own side) ps → arcs R side i ≡ image path level (row-of side) ps
-  pub inner : (side : Side) (i : ℕ) → n ≤ i → i < n + actions E → (ps : List ℕ) → Stay rows counts nodes k side i Internal ps → arcs R side i ≡ stretched 1 base ps
+-- The rows lead from the lists of a node, which is E, to the final numbers of the whole R.
+pub record Leads (rows counts : List ℕ) (nodes : ℕ) (R : Expr) (n : ℕ) (E : Expr) (path : List ℕ) (s : Spot) : Type 0 where
+  pub led : Led path s
+  pub outer : (side : Side) (i : ℕ) → n ≤ i → i < n + actions E → (ps : List ℕ) → Stay rows counts nodes (s .node) side i (own side) ps → arcs R side i ≡ final path (row-of side s) ps
+  pub inner : (side : Side) (i : ℕ) → n ≤ i → i < n + actions E → (ps : List ℕ) → Stay rows counts nodes (s .node) side i Internal ps → arcs R side i ≡ stretched 1 (s .base) ps
 
--- Node k is an expression, of few enough places and actions.
+-- Node k is an expression, of few enough places.
 pub record Here (rows counts : List ℕ) (nodes k n : ℕ) (E : Expr) : Type 0 where
   pub at : At rows counts nodes k n E
   pub few : length (places n E) ≤ place-limit
-  pub acts : n + actions E ≤ 256
 
 -- An operand of node k, with its node, its first action and its expression.
 pub record Kid (rows counts : List ℕ) (nodes k n : ℕ) (E : Expr) (operand : Operand) (c m : ℕ) (X : Expr) : Type 0 where
@@ -75,8 +78,8 @@ abbrev pub state : List ℕ → List ℕ → List ℕ → ℕ → State
 state path room index at = record { path = path; room = room; index = index; at = at }
 
 -- From one state to another the lists of so many actions from n on are made; what was there before is kept.
-pub record Did (R : Expr) (n count level : ℕ) (before after : State) : Type 0 where
-  pub path-kept : (j : ℕ) → j < 16 * (level + 1) → getD (after .path) j 0 ≡ getD (before .path) j 0
+pub record Did (R : Expr) (n count free : ℕ) (before after : State) : Type 0 where
+  pub path-kept : (j : ℕ) → j < free → getD (after .path) j 0 ≡ getD (before .path) j 0
   pub room-kept : (j : ℕ) → j < before .at → getD (after .room) j 0 ≡ getD (before .room) j 0
   pub index-kept : (j : ℕ) → j < 4 * n → getD (after .index) j 0 ≡ getD (before .index) j 0
   pub path-long : length (after .path) ≡ length (before .path)
@@ -86,26 +89,38 @@ pub record Did (R : Expr) (n count level : ℕ) (before after : State) : Type 0 
   pub inside : after .at ≤ length (after .room)
   pub lists : (i : ℕ) → n ≤ i → i < n + count → (side : Side) → Listed (after .room) (after .index) (after .at) (slot side i) (arcs R side i)
 
-abbrev pub Long : State → Type 0
-Long s = length (s .path) ≡ 512
+-- What a walk from a node leaves, whatever expression the node is.
+abbrev pub Walked : List ℕ → List ℕ → Spot → State → State → Type 0
+Walked rows counts s before after = (nodes : ℕ) (R : Expr) (n : ℕ) (E : Expr) → Here rows counts nodes (s .node) n E → Leads rows counts nodes R n E (before .path) s
+    → 0 < after .at → Did R n (actions E) (s .free) before after
 
--- What a walk from node k leaves, whatever expression the node is.
-abbrev pub Walked : List ℕ → List ℕ → ℕ → ℕ → ℕ → State → State → Type 0
-Walked rows counts k level base before after = (nodes : ℕ) (R : Expr) (n : ℕ) (E : Expr) → Here rows counts nodes k n E → Leads rows counts nodes R k n E (before .path) level base
-    → Long before → 0 < after .at → Did R n (actions E) level before after
+-- An operand of a node, with its lists.
+abbrev pub under : Spot → Lists → ℕ → ℕ → Spot
+under s l node at = record { node = node; entry = l .entry; exit = l .exit; base = l .base; free = s .free + 20; at = at }
 
--- What a walk from an operand of node k leaves.
-abbrev pub Descended : List ℕ → List ℕ → ℕ → Operand → ℕ → ℕ → ℕ → State → State → Type 0
-Descended rows counts k operand c level base before after = (nodes : ℕ) (R : Expr) (n : ℕ) (E : Expr) → Here rows counts nodes k n E → (tag-at rows k ≡ 1 → ⊥) → Leads rows counts nodes R k n E (before .path) level base
-    → (m : ℕ) (X : Expr) → Kid rows counts nodes k n E operand c m X → Long before → 0 < after .at → Did R m (actions X) level before after
-
--- The two lists of the action that node k is, made from a place on.
-pub record Put (rows : List ℕ) (k : ℕ) (path : List ℕ) (level at r : ℕ) (room room′ index index′ : List ℕ) : Type 0 where
+-- The two lists of the action that a node is, made from a place on.
+pub record Put (rows : List ℕ) (s : Spot) (path : List ℕ) (r : ℕ) (room room′ index index′ : List ℕ) : Type 0 where
   pub inputs : ℕ
   pub outputs : ℕ
   pub middle : List ℕ
-  pub fits : 4 * first-at rows k + 4 ≤ length index
-  pub first : Made room middle at inputs (image path level 0 (0 ∷ []))
-  pub second : Made middle room′ (at + inputs) outputs (image path level 8 (0 ∷ []))
-  pub end : r ≡ at + inputs + outputs
-  pub pairs : index′ ≡ pair-put (pair-put index (4 * first-at rows k + 0) at inputs) (4 * first-at rows k + 2) (at + inputs) outputs
+  pub fits : 4 * first-at rows (s .node) + 4 ≤ length index
+  pub first : Made room middle (s .at) inputs (final path (s .entry) (0 ∷ []))
+  pub second : Made middle room′ (s .at + inputs) outputs (final path (s .exit) (0 ∷ []))
+  pub end : r ≡ s .at + inputs + outputs
+  pub pairs : index′ ≡ pair-put (pair-put index (4 * first-at rows (s .node) + 0) (s .at) inputs) (4 * first-at rows (s .node) + 2) (s .at + inputs) outputs
+
+-- The tables are as long as the number of nodes asks.
+pub record Tables (rows counts : List ℕ) (nodes : ℕ) : Type 0 where
+  pub few : nodes ≤ 4096
+  pub rows-long : 6 * nodes ≤ length rows
+  pub counts-long : 3 * nodes ≤ length counts
+
+-- A node of two operands or three, and where the second is.
+pub record Inner (rows : List ℕ) (nodes : ℕ) (s : Spot) (tag second : ℕ) : Type 0 where
+  pub tag-is : tag ≡ tag-at rows (s .node)
+  pub not-action : tag ≡ 1 → ⊥
+  pub not-scope : tag ≡ 6 → ⊥
+  pub second-is : second ≡ after-at rows (s .node + 1)
+  pub next : s .node + 1 < nodes
+  pub inside : second < nodes
+  pub room : s .free ≤ 636

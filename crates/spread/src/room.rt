@@ -1,5 +1,4 @@
 // Lists of positions are changed in place, from `at` on in a room of any length: where a list does not fit, the answer is 0.
-use plan::exclusive::number_at;
 use plan::exclusive::wide;
 ghost use mathlib.Core.Path.{_≡_};
 ghost use mathlib.Core.Bool.{true};
@@ -7,7 +6,7 @@ ghost use mathlib.Core.List.{[], _∷_};
 ghost use Prim.Native.Nat.{_+_, _≤_, _<_};
 ghost use lib.ListN.{length};
 ghost use Rattle.arcs.specs.Positions.{stretched, repeated};
-ghost use Rattle.spread.specs.Path.{risen, image};
+ghost use Rattle.spread.specs.Path.{risen, final};
 ghost use Rattle.spread.specs.Room.{Within, Ran, Fits, Changes, Made};
 
 // So many numbers from `from` on, written from `at` on.
@@ -109,59 +108,99 @@ fn repeat(room: &mut [u16], at: usize, count: usize, left: usize, step: usize) -
     total
 }
 
-// One level up: the positions changed as a row of the path says.
-fn rise(path: &[u16], row: usize, room: &mut [u16], at: usize, count: usize) -> usize
-    requires { ⌜ Within (now room) at count × (row ≤ 65535) ⌝ }
+// One row up: the positions changed as a row of the path says.
+fn rise(path: &[u16; 656], row: usize, room: &mut [u16], at: usize, count: usize) -> usize
+    requires { ⌜ Within (now room) at count × (row + 5 ≤ 656) ⌝ }
     ensures fits { λ r. ⌜ Fits (now (room .entry)) (now (room .exit)) at r ⌝ }
     ensures changes { λ r. ⌜ Changes (now (room .entry)) (now (room .exit)) at count r (risen (now (path .entry)) row) ⌝ }
 {
-    let right = wide(number_at(path, row + 2));
-    let off = wide(number_at(path, row + 4));
+    let right = wide(path[row + 2]);
+    let off = wide(path[row + 4]);
     let n = stretch(room, at, count, right, off);
     if n == 0 {
         return 0;
     }
-    let left = wide(number_at(path, row + 1));
-    let step = wide(number_at(path, row + 3));
+    let left = wide(path[row + 1]);
+    let step = wide(path[row + 3]);
     repeat(room, at, n, left, step)
 }
 
-// All the way up, from a level on: a row whose first number is not 0 makes final numbers, and so does level 0.
-fn climb(
-    path: &[u16],
-    level: usize,
-    side: usize,
-    room: &mut [u16],
-    at: usize,
-    count: usize,
-) -> usize
-    requires { ⌜ Within (now room) at count × (level ≤ 31) × (side ≤ 8) ⌝ }
+// All the way up, from a row on; row 0 is none. A row that goes on with a later one is refused.
+fn climb(path: &[u16; 656], row: usize, room: &mut [u16], at: usize, count: usize) -> usize
+    requires { ⌜ Within (now room) at count × (row ≤ 651) ⌝ }
     ensures fits { λ r. ⌜ Fits (now (room .entry)) (now (room .exit)) at r ⌝ }
-    ensures changes { λ r. ⌜ Changes (now (room .entry)) (now (room .exit)) at count r (image (now (path .entry)) level side) ⌝ }
+    ensures changes { λ r. ⌜ Changes (now (room .entry)) (now (room .exit)) at count r (final (now (path .entry)) row) ⌝ }
 {
-    let row = 16 * level + side;
+    if row == 0 {
+        return count;
+    }
     let n = rise(path, row, room, at, count);
     if n == 0 {
         return 0;
     }
-    if level == 0 {
-        return n;
+    let up = wide(path[row]);
+    if row <= up {
+        return 0;
     }
-    if wide(number_at(path, row)) == 0 {
-        return climb(path, level - 1, side, room, at, n);
-    }
-    n
+    climb(path, up, room, at, n)
 }
 
-// The final numbers of an action's own place, which is the only one of its list.
-pub fn list_places(path: &[u16], level: usize, side: usize, room: &mut [u16], at: usize) -> usize
-    requires { ⌜ (length (now room) ≤ 65535) × (level ≤ 31) × (side ≤ 8) ⌝ }
+// The final numbers of an action's own place, which is the only one of its list: a run, repeated, and then up.
+fn list_many(path: &[u16; 656], row: usize, room: &mut [u16], at: usize) -> usize
+    requires { ⌜ (length (now room) ≤ 65535) × (0 < row) × (row ≤ 651) × (at < length (now room)) ⌝ }
     ensures long { λ _. ⌜ length (now (room .exit)) ≡ length (now (room .entry)) ⌝ }
-    ensures made { λ r. ⌜ (0 < r → Made (now (room .entry)) (now (room .exit)) at r (image (now (path .entry)) level side (0 ∷ []))) ⌝ }
+    ensures made { λ r. ⌜ (0 < r → Made (now (room .entry)) (now (room .exit)) at r (final (now (path .entry)) row (0 ∷ []))) ⌝ }
+{
+    let right = wide(path[row + 2]);
+    let off = wide(path[row + 4]);
+    if room.len() < at + right {
+        return 0;
+    }
+    if 65536 < off + right {
+        return 0;
+    }
+    put_run(room, at, off, right);
+    let left = wide(path[row + 1]);
+    let step = wide(path[row + 3]);
+    let n = repeat(room, at, right, left, step);
+    if n == 0 {
+        return 0;
+    }
+    let up = wide(path[row]);
+    if row <= up {
+        return 0;
+    }
+    climb(path, up, room, at, n)
+}
+
+// A row that makes one final number of a position.
+fn is_one(up: u16, left: u16, right: u16) -> bool
+    ensures { λ r. ⌜ (r ≡ true → (up ≡ 0) × (left ≡ 1) × (right ≡ 1)) ⌝ }
+{
+    if up == 0 {
+        if left == 1 {
+            if right == 1 {
+                return true;
+            }
+            return false;
+        }
+        return false;
+    }
+    false
+}
+
+// The same, where nearly always it is one number.
+pub fn list_places(path: &[u16; 656], row: usize, room: &mut [u16], at: usize) -> usize
+    requires { ⌜ (length (now room) ≤ 65535) × (0 < row) × (row ≤ 651) ⌝ }
+    ensures long { λ _. ⌜ length (now (room .exit)) ≡ length (now (room .entry)) ⌝ }
+    ensures made { λ r. ⌜ (0 < r → Made (now (room .entry)) (now (room .exit)) at r (final (now (path .entry)) row (0 ∷ []))) ⌝ }
 {
     if room.len() <= at {
         return 0;
     }
-    room[at] = 0;
-    climb(path, level, side, room, at, 1)
+    if is_one(path[row], path[row + 1], path[row + 2]) {
+        room[at] = path[row + 4];
+        return 1;
+    }
+    list_many(path, row, room, at)
 }

@@ -1,7 +1,8 @@
--- `spread_over` meets its contract: the root's level leads to the final numbers, and the walk does the rest.
+-- `spread_over` meets its contract: the root's rows lead to the final numbers, and the walk does the rest.
 -- Assumes nothing.
 use native.Mathlib.Omega.{arith}
-use mathlib.Core.Path.{refl}
+use mathlib.Core.Path.{refl, ap}
+use Rattle.arcs.specs.declared.moves.Move.{Move}
 use Rattle.spread.specs.Walk.{state}
 use Rattle.spread.proofs.Climbs.{no-claim}
 use Rattle.spread.proofs.Roots.{all-spread}
@@ -9,70 +10,53 @@ use borrow.Author.Needs.{needs}
 use Rattle.spread.proofs.spread_over.Statement.{statement}
 use Rattle.spread.proofs.spread_over.Tie as tie
 
-counts-at-requires : tie.Need-counts-at-requires
-counts-at-requires c κs = search needs
+returns : tie.Need-returns
+returns c = (refl, λ e. no-claim e)
 
-base-of-requires : tie.Need-base-of-requires
-base-of-requires c κs = search needs
+end-row-requires : tie.Need-end-row-requires
+end-row-requires c κs = (omega arith, omega (arith, ap (λ (x : Move). x .off) (c .shifted .ensures)), omega arith)
 
-put-root-requires : tie.Need-put-root-requires
-put-root-requires c κs = search needs
+end-row-requires-2 : tie.Need-end-row-requires-2
+end-row-requires-2 c κs = (omega arith, omega (arith, ap (λ (x : Move). x .off) (c .shifted2 .ensures)), omega (arith, c .before .before .before .before .before .before .if1 .left))
 
 walk-requires : tie.Need-walk-requires
-walk-requires c κs = search needs
-
-same-length : tie.Need-same-length
-same-length c = search needs
-
-same-length-2 : tie.Need-same-length-2
-same-length-2 c = search needs
-
-same-length-3 : tie.Need-same-length-3
-same-length-3 c = search needs
-
-returns : tie.Need-returns
-returns c = (c .before .before .before .before .before .before .before .walk .ensures .0, λ e. no-claim e)
-
-same-length-4 : tie.Need-same-length-4
-same-length-4 c = search needs
-
-same-length-5 : tie.Need-same-length-5
-same-length-5 c = search needs
-
-same-length-6 : tie.Need-same-length-6
-same-length-6 c = search needs
+walk-requires c κs =
+    let p = c .before .before .before .before .before .before .before .before .before .before .before .before .before .before .before .before .before .before .pre in
+    (p .0, p .1, record { entry-some = omega arith; exit-some = omega arith; entry-low = omega arith; exit-low = omega arith; small = c .before .before .before .before .before .before .before .before .before .before .before .before .before .counts-at .ensures .1 .entries; room = omega arith }, p .2)
 
 returns-2 : tie.Need-returns-2
-returns-2 c =
-    let s = c .before .before .before .before .before .before .before .before .before .before .before .before .before .before .before .before .before .before .before .before .before .before .before in
-    let a = s .args in
-    let w = c .before .before .before .before .before .before .before .walk .ensures in (
-      w .0,
-      λ e. all-spread (a .rows .now) (a .nodes) (a .counts .now) (a .path .now) _ (c .before .before .before .before .before .before .before .before .before .before .before .before .before .before .before .before .before .counts-at .result) _ (a .room .now) (a .index .now) (state _ _ _ _) (s .pre .1) (c .before .before .before .before .before .before .before .before .before .before .before .before .before .before .before .before .before .counts-at .ensures .0) (c .before .before .before .before .before .before .before .before .before .before .before .before .before .before .before .before .base-of .ensures)
-          (c .before .before .before .before .before .before .before .before .before .before .before .before .before .before .put-root .ensures (c .before .before .before .before .before .before .before .before .before .before .before .if1 .taken)) (w .1) (omega (arith, c .if2 .left)),
-    )
-
-same-length-7 : tie.Need-same-length-7
-same-length-7 c = search needs
+returns-2 c = (c .before .before .before .before .before .walk .ensures .0, λ e. no-claim e)
 
 returns-3 : tie.Need-returns-3
-returns-3 c = (refl, λ e. no-claim e)
+returns-3 c =
+    let s = c .before .before .before .before .before .before .before .before .before .before .before .before .before .before .before .before .before .before .before .before .before .before .before .before in
+    let a = s .args in
+    let w = c .before .before .before .before .before .walk .ensures in
+    (w .0, λ e. all-spread (a .rows .now) (a .nodes) (a .counts .now) (a .path .now) (c .before .before .before .before .before .before .before .before .before .before .before .before .before .before .before .before .before .before .before .counts-at .result) _ (a .room .now) (a .index .now) (state _ _ _ _) (s .pre .3) (c .before .before .before .before .before .before .before .before .before .before .before .before .before .before .before .before .before .before .before .counts-at .ensures .0) (c .before .before .before .before .before .before .before .before .before .before .before .before .before .before .before .before .before .before .base-of .ensures) (c .before .before .before .before .before .before .before .before .before .before .before .before .before .before .before .shifted .ensures) (c .before .before .before .before .before .before .before .before .before .before .before .shifted2 .ensures) (c .before .before .before .before .before .before .before .before .before .before .before .before .before .before .end-row .ensures .1 (c .before .before .before .before .before .before .before .before .before .before .before .before .before .if2 .taken)) (c .before .before .before .before .before .before .before .before .before .before .end-row2 .ensures .1 (c .before .before .before .before .before .before .before .before .before .if3 .taken)) (w .1) (omega (arith, c .if4 .left)))
+
+returns-4 : tie.Need-returns-4
+returns-4 c = (refl, λ e. no-claim e)
+
+returns-5 : tie.Need-returns-5
+returns-5 c = (refl, λ e. no-claim e)
 
 pub spread-over-spec : {M : Type 1} → statement M
 spread-over-spec =
     tie.close
     (tie.spec
-    counts-at-requires
-    base-of-requires
-    put-root-requires
-    walk-requires
-    same-length
-    same-length-2
-    same-length-3
+    (λ c κs. search needs)
+    (λ c κs. search needs)
     returns
-    same-length-4
-    same-length-5
-    same-length-6
+    (λ c κs. search needs)
+    end-row-requires
+    (λ c κs. search needs)
+    end-row-requires-2
+    walk-requires
+    (λ c. search needs)
+    (λ c. search needs)
     returns-2
-    same-length-7
-    returns-3)
+    (λ c. search needs)
+    (λ c. search needs)
+    returns-3
+    returns-4
+    returns-5)

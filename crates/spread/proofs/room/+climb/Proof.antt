@@ -1,21 +1,21 @@
--- `climb` meets its contract, the level falling: one level up, and then the levels above it.
+-- `climb` meets its contract, the row falling: one row up, and then the rows that it goes on with.
 -- Assumes nothing.
-use Prim.Native.Nat.{ℕ, _<_}
 use native.Mathlib.Omega.{arith}
 use mathlib.Core.Path.{refl, _∙_}
+use Rattle.spread.specs.Path.{final}
+use Rattle.spread.proofs.Rooms.{none-made}
+use Rattle.spread.proofs.Climbs.{fits-then, fits-none, climb-none, climb-more}
+use Prim.Native.Nat.{ℕ, _<_}
 use borrow.Fn.Kinds.{In}
 use borrow.Fn.PlainCycle.{Measures, is, falls, and}
-use Rattle.spread.specs.Path.{image}
-use Rattle.spread.proofs.Rooms.{none-made}
-use Rattle.spread.proofs.Climbs.{fits-then, fits-none, climb-last, climb-stop, climb-more}
 use Rattle.spread.proofs.room.climb.Reads as climb
 use Rattle.spread.proofs.room.climb.Kinds as climb-kinds
 use Rattle.spread.proofs.room.+climb.Lts-climb as climb-lts
-use Rattle.plan.proofs.exclusive.number_at.Reads as number-at-reads
 use Rattle.plan.proofs.exclusive.wide.Reads as wide-reads
 use Rattle.spread.proofs.room.rise.Reads as rise-reads
 use Rattle.spread.proofs.room.+climb.{statement}
 use Rattle.spread.proofs.room.+climb.Tie.{close}
+use borrow.Author.Needs.{needs}
 
 abbrev μ-climb : Measures 2 climb-kinds.ps ℕ
 μ-climb κs a = a .1 .0
@@ -30,8 +30,6 @@ pub +climb-spec : {M : Type 1} → statement M
 +climb-spec = close μ-climb λ t. climb-lts.spec (
   rise-reads.Asked,
   rise-reads.Learnt,
-  number-at-reads.Asked,
-  number-at-reads.Learnt,
   wide-reads.Asked,
   wide-reads.Learnt,
   climb-below t,
@@ -39,27 +37,22 @@ pub +climb-spec : {M : Type 1} → statement M
 )
     (climb-at t)
     climb.Post
-    (λ c. omega (arith, c .before .before .pre .1 .1))
-    (λ c. omega (arith, c .before .before .pre .1 .1, c .before .before .pre .1 .2))
-    (λ c κs. let s = c .before .before .before in
-    (s .pre .1 .0, omega (arith, s .pre .1 .1, s .pre .1 .2)))
+    (λ c. let s = c .before .before in
+    let a = s .args in
+    (record { long = refl; inside = s .pre .1 .0 .inside }, climb-none (a .path .now) (a .row) (c .if1 .taken) (s .pre .1 .0 .inside)))
+    (λ c κs. let s = c .before .before .before in (s .pre .1 .0, omega (arith, s .pre .1 .1)))
     (λ c. c .before .before .before .rise .ensures .0 .long)
     (λ c. let a = c .before .before .before .before .before .before .before .args in
-    (fits-none (c .before .before .before .rise .ensures .0) refl, none-made (a .room .now) _ (a .at) (a .count) 0 (image (a .path .now) (a .level) (a .side)) refl))
-    (λ c. c .before .before .before .before .rise .ensures .0 .long)
-    (λ c. let a = c .before .before .before .before .before .before .before .before .args in
-    (c .before .before .before .before .rise .ensures .0, climb-last (a .path .now) (a .side) (a .level) (c .if2 .taken) (c .before .before .before .before .rise .ensures .1)))
-    (λ c κs. tt)
-    (λ c κs. tt)
-    (λ c. omega (arith, c .before .before .before .if2 .left))
-    (λ c κs. let s = c .before .before .before .before .before .before .before .before .before .before .before .before in
-    let r = c .before .before .before .before .before .before .before .before .rise .ensures .0 in
-    (omega (arith, s .pre .0, c .before .before .before .before .if2 .left), (record { inside = omega (arith, r .inside, r .long); most = omega (arith, s .pre .1 .0 .most, r .long) }, omega (arith, s .pre .1 .1), s .pre .1 .2)))
-    (λ c. fits-then (c .before .before .before .before .before .before .before .before .before .before .before .rise .ensures .0) (c .before .before .climb .ensures .0) .long)
-    (λ c. let a = c .before .before .before .before .before .before .before .before .before .before .before .before .before .before .before .args in (
-      fits-then (c .before .before .before .before .before .before .before .before .before .before .before .rise .ensures .0) (c .before .before .climb .ensures .0),
-      climb-more (a .path .now) (a .side) (a .level) (c .before .before .before .before .before .before .before .if2 .left) (c .before .before .before .before .if3 .taken) (c .before .before .before .before .before .wide .ensures .0 ∙ c .before .before .before .before .before .before .number-at .ensures) (omega (arith, c .before .before .before .before .before .before .before .before .if1 .left)) (c .before .before .before .before .before .before .before .before .before .before .before .rise .ensures .1) (c .before .before .climb .ensures .1),
-    ))
-    (λ c. c .before .before .before .before .before .before .before .rise .ensures .0 .long)
-    (λ c. let a = c .before .before .before .before .before .before .before .before .before .before .before .args in
-    (c .before .before .before .before .before .before .before .rise .ensures .0, climb-stop (a .path .now) (a .side) (a .level) (c .before .before .before .if2 .left) (c .if3 .left) (c .before .wide .ensures .0 ∙ c .before .before .number-at .ensures) (c .before .before .before .before .before .before .before .rise .ensures .1)))
+    (fits-none (c .before .before .before .rise .ensures .0) refl, none-made (a .room .now) _ (a .at) (a .count) 0 (final (a .path .now) (a .row)) refl))
+    (λ c. search needs)
+    (λ c. omega (arith, c .before .before .before .before .before .before .before .pre .1 .1))
+    (λ c κs. search needs)
+    (λ c. c .before .before .before .before .before .before .rise .ensures .0 .long)
+    (λ c. let a = c .before .before .before .before .before .before .before .before .before .before .args in
+    (fits-none (c .before .before .before .before .before .before .rise .ensures .0) refl, none-made (a .room .now) _ (a .at) (a .count) 0 (final (a .path .now) (a .row)) refl))
+    (λ c κs. let s = c .before .before .before .before .before .before .before .before .before .before .before in
+    let r = c .before .before .before .before .before .before .before .rise .ensures .0 in
+    (omega (arith, s .pre .0, c .before .if3 .left), (record { inside = omega (arith, r .inside, r .long); most = omega (arith, s .pre .1 .0 .most, r .long) }, omega (arith, s .pre .1 .1, c .before .if3 .left))))
+    (λ c. fits-then (c .before .before .before .before .before .before .before .before .before .before .rise .ensures .0) (c .before .before .climb .ensures .0) .long)
+    (λ c. let a = c .before .before .before .before .before .before .before .before .before .before .before .before .before .before .args in
+    (fits-then (c .before .before .before .before .before .before .before .before .before .before .rise .ensures .0) (c .before .before .climb .ensures .0), climb-more (a .path .now) (a .row) (c .before .before .before .before .before .wide .ensures .0) (omega (arith, c .before .before .before .before .if3 .left)) (omega (arith, c .before .before .before .before .before .before .before .if2 .left)) (c .before .before .before .before .before .before .before .before .before .before .rise .ensures .1) (c .before .before .climb .ensures .1)))

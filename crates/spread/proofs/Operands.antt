@@ -28,10 +28,10 @@ module _ (rows counts : List ℕ) (nodes k n : ℕ) where
     pub third : Kid rows counts nodes k n P Third (after-at rows (after-at rows (k + 1))) (n + actions E + actions F) G
 
   module _ (P E F : Expr) (parts : Two rows counts nodes k n E F) (fewE : length (places n E) ≤ place-limit) (fewF : length (places (n + actions E) F) ≤ place-limit)
-      (acts : n + actions P ≤ 256) (n6 : tag-at rows k ≡ 6 → ⊥) where
+      (n6 : tag-at rows k ≡ 6 → ⊥) where
     first-kid : actions E + actions F ≤ actions P → Kid rows counts nodes k n P First (k + 1) n E
     first-kid sum = record {
-      here = record { at = parts .0; few = fewE; acts = omega arith };
+      here = record { at = parts .0; few = fewE };
       low = omega arith;
       high = omega arith;
       by = λ i low high. first-child rows k refl i refl refl n6 (omega (arith, second-from rows counts nodes k n E F parts));
@@ -39,7 +39,7 @@ module _ (rows counts : List ℕ) (nodes k n : ℕ) where
 
     second-here : actions E + actions F ≤ actions P → Here rows counts nodes (after-at rows (k + 1)) (n + actions E) F
     second-here sum =
-        record { at = subst (λ c. At rows counts nodes c (n + actions E) F) (sym (second-at rows counts nodes k n E F parts)) (parts .1); few = fewF; acts = omega arith }
+        record { at = subst (λ c. At rows counts nodes c (n + actions E) F) (sym (second-at rows counts nodes k n E F parts)) (parts .1); few = fewF }
 
     pub two-kids : (tag-at rows k ≡ 5 → ⊥) → actions E + actions F ≡ actions P → Pair P E F
     two-kids n5 sum = record {
@@ -65,7 +65,7 @@ module _ (rows counts : List ℕ) (nodes k n : ℕ) where
           };
         };
         third = record {
-          here = record { at = subst (λ c. At rows counts nodes c (n + actions E + actions F) G) (sym (third-at rows counts nodes k n E F parts G last)) last; few = fewG; acts = omega arith };
+          here = record { at = subst (λ c. At rows counts nodes c (n + actions E + actions F) G) (sym (third-at rows counts nodes k n E F parts G last)) last; few = fewG };
           low = omega arith;
           high = omega arith;
           by = λ i low high. loop-third rows k refl i refl refl t (omega (arith, second-from rows counts nodes k n E F parts)) refl refl (omega (arith, third-from rows counts nodes k n E F parts G last));
@@ -75,7 +75,7 @@ module _ (rows counts : List ℕ) (nodes k n : ℕ) where
   pub scope-kid : (a : ℕ) (E : Expr) → Here rows counts nodes k n (scope a E) → Kid rows counts nodes k n (scope a E) First (k + 1) n E
   unfolding actions
   scope-kid a E h = record {
-    here = record { at = scope-part rows counts nodes E (h .at); few = few-of rows counts nodes n n (scope a E) E (h .few) (scope-within a E); acts = h .acts };
+    here = record { at = scope-part rows counts nodes E (h .at); few = few-of rows counts nodes n n (scope a E) E (h .few) (scope-within a E) };
     low = omega arith;
     high = omega arith;
     by = λ i low high. child-of-scope rows k refl i (tag-is rows counts nodes (scope a E) (h .at));
@@ -87,7 +87,7 @@ module _ (rows counts : List ℕ) (nodes k n : ℕ) where
       let t = tag-is rows counts nodes (sequence E F) (h .at) in
       let w = sequence-within E F in
       two-kids (sequence E F) E F (sequence-parts rows counts nodes E F (h .at)) (few-of rows counts nodes n n (sequence E F) E (h .few) (w .0))
-      (few-of rows counts nodes n (n + actions E) (sequence E F) F (h .few) (w .1)) (h .acts) (λ z. omega (arith, t)) (λ z. omega (arith, t)) refl
+      (few-of rows counts nodes n (n + actions E) (sequence E F) F (h .few) (w .1)) (λ z. omega (arith, t)) (λ z. omega (arith, t)) refl
 
   pub choice-kids : (E F : Expr) → Here rows counts nodes k n (choice E F) → Pair (choice E F) E F
   unfolding actions
@@ -95,7 +95,7 @@ module _ (rows counts : List ℕ) (nodes k n : ℕ) where
       let t = tag-is rows counts nodes (choice E F) (h .at) in
       let w = choice-within E F in
       two-kids (choice E F) E F (choice-parts rows counts nodes E F (h .at)) (few-of rows counts nodes n n (choice E F) E (h .few) (w .0))
-      (few-of rows counts nodes n (n + actions E) (choice E F) F (h .few) (w .1)) (h .acts) (λ z. omega (arith, t)) (λ z. omega (arith, t)) refl
+      (few-of rows counts nodes n (n + actions E) (choice E F) F (h .few) (w .1)) (λ z. omega (arith, t)) (λ z. omega (arith, t)) refl
 
   pub parallel-kids : (E F : Expr) → Here rows counts nodes k n (parallel E F) → Pair (parallel E F) E F
   unfolding actions
@@ -103,7 +103,7 @@ module _ (rows counts : List ℕ) (nodes k n : ℕ) where
       let t = tag-is rows counts nodes (parallel E F) (h .at) in
       let w = parallel-within E F in
       two-kids (parallel E F) E F (parallel-parts rows counts nodes E F (h .at)) (few-of rows counts nodes n n (parallel E F) E (h .few) (w .0))
-      (few-of rows counts nodes n (n + actions E) (parallel E F) F (h .few) (w .1)) (h .acts) (λ z. omega (arith, t)) (λ z. omega (arith, t)) refl
+      (few-of rows counts nodes n (n + actions E) (parallel E F) F (h .few) (w .1)) (λ z. omega (arith, t)) (λ z. omega (arith, t)) refl
 
   pub loop-kids : (E F G : Expr) → Here rows counts nodes k n (loop E F G) → Triple (loop E F G) E F G
   unfolding actions
@@ -112,4 +112,4 @@ module _ (rows counts : List ℕ) (nodes k n : ℕ) where
       let w = loop-within E F G in
       let (two, last) = loop-parts rows counts nodes E F G (h .at) in
       three-kids (loop E F G) E F two (few-of rows counts nodes n n (loop E F G) E (h .few) (w .0)) (few-of rows counts nodes n (n + actions E) (loop E F G) F (h .few) (w .1))
-      (h .acts) (λ z. omega (arith, t)) G last t (few-of rows counts nodes n (n + actions E + actions F) (loop E F G) G (h .few) (w .2)) refl
+      (λ z. omega (arith, t)) G last t (few-of rows counts nodes n (n + actions E + actions F) (loop E F G) G (h .few) (w .2)) refl
