@@ -2,9 +2,10 @@
 ghost use mathlib.Core.Path.{_≡_};
 ghost use Prim.Native.Nat.{_+_, _*_, _<_, _≤_};
 ghost use lib.ListN.{length, getD, drop};
+ghost use lib.Dec.{ltb};
 ghost use Rattle.net.specs.Check.{rising};
 ghost use Rattle.net.specs.Chains.{in-row};
-ghost use Rattle.net.specs.Passes.{climbs, codes-pass, list-passes, row-passes, rows-pass};
+ghost use Rattle.net.specs.Passes.{neighbours, codes-pass, list-passes, row-passes, rows-pass};
 
 fn wide(x: u16) -> usize
     ensures { λ r. ⌜ (r ≡ x) × (r < 65536) ⌝ }
@@ -24,7 +25,7 @@ pub fn number(rows: &[u16], t: usize, k: usize) -> usize
 // Each place number is above the one before it. All are compared, with no way out before the end, so that the machine can compare many at once.
 fn each_above(list: &[u16]) -> bool
     requires { ⌜ 1 ≤ length (now list) ⌝ }
-    ensures { λ r. ⌜ r ≡ climbs (getD (now (list .entry)) 0 0) (drop 1 (now (list .entry))) ⌝ }
+    ensures { λ r. ⌜ r ≡ neighbours ltb (getD (now (list .entry)) 0 0) (drop 1 (now (list .entry))) ⌝ }
 {
     let mut above = true;
     let mut i = 1;

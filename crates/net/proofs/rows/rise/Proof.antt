@@ -2,7 +2,7 @@
 use mathlib.Core.Path.{_≡_, sym, ap, ap₂, _∙_}
 use mathlib.Core.Bool.{_&&_}
 use lib.Dec.{ltb}
-use Rattle.net.proofs.Climbs.{rising-is, rising-none}
+use Rattle.net.proofs.Neighbours.{rising-is, rising-none}
 use borrow.Author.Needs.{needs}
 use Rattle.net.proofs.rows.rise.Statement.{statement}
 use Rattle.net.proofs.rows.rise.Tie as tie
