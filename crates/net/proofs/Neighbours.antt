@@ -13,7 +13,7 @@ use lib.Dec.{T, eqb, leb, ltb, leb→le, le→leb, ltb→lt, lt→ltb}
 use Rattle.field.proofs.Tests.{and-parts, T-true}
 use Rattle.field.proofs.Alls.{and-assoc}
 use Rattle.net.specs.Check.{rising, kinds-after, kinds-ordered}
-use Rattle.net.specs.Passes.{neighbours}
+use Rattle.net.specs.Passes.{neighbours, list-passes}
 use Rattle.net.proofs.Turns.{and-yes}
 
 -- the last number of a list that begins with x
@@ -65,10 +65,11 @@ kinds-to k (j ∷ l) =
     ∙ sym (and-assoc (leb k j) (neighbours leb j l) (eqb (last-of j l) 3))
 
 -- A list with something in it: by its first number, its neighbours and its last.
-pub rising-is : (l : List ℕ) (places : ℕ) → (length l ≡ 0 → ⊥) → rising 0 places l ≡ (neighbours ltb (getD l 0 0) (drop 1 l) && ltb (getD l (length l - 1) 0) places)
-rising-is [] places h = absurd (h refl)
-rising-is (x ∷ l) places h =
-    rising-to 0 places x l
+pub list-some : (l : List ℕ) (places : ℕ) → (length l ≡ 0 → ⊥) → list-passes places l ≡ (neighbours ltb (getD l 0 0) (drop 1 l) && ltb (getD l (length l - 1) 0) places)
+unfolding list-passes
+list-some [] places h = absurd (h refl)
+list-some (x ∷ l) places h =
+    ap₂ (λ b c. b && c) (T-true (leb 1 (suc (length l))) (le→leb 1 (suc (length l)) (omega arith))) (rising-to 0 places x l)
     ∙ ap₂ (λ b n. b && (neighbours ltb x l && ltb n places)) (T-true (leb 0 x) (le→leb 0 x (omega arith))) (last-at x l)
 
 pub kinds-are : (l : List ℕ) → (length l ≡ 0 → ⊥) → (eqb (getD l 0 0) 1 && (neighbours leb (getD l 0 0) (drop 1 l) && eqb (getD l (length l - 1) 0) 3)) ≡ kinds-ordered l
@@ -84,15 +85,30 @@ kinds-are (k ∷ l) h =
     after-one false h = refl
 
 -- A list with nothing in it.
-pub rising-none : (l : List ℕ) (places : ℕ) → length l ≡ 0 → true ≡ rising 0 places l
-unfolding rising
-rising-none [] places h = refl
-rising-none (x ∷ l) places h = absurd (omega arith)
+pub list-none : (l : List ℕ) (places : ℕ) → length l ≡ 0 → false ≡ list-passes places l
+unfolding list-passes
+list-none [] places h = refl
+list-none (x ∷ l) places h = absurd (omega arith)
 
 pub kinds-none : (l : List ℕ) → length l ≡ 0 → false ≡ kinds-ordered l
 unfolding kinds-ordered
 kinds-none [] h = refl
 kinds-none (k ∷ l) h = absurd (omega arith)
+
+-- In a list of one number there is nothing to compare, and in a list of two there is one thing.
+module _ (test : ℕ → ℕ → Bool) where
+  pub neighbours-few : (l : List ℕ) → length l < 2 → true ≡ neighbours test (getD l 0 0) (drop 1 l)
+  unfolding neighbours
+  neighbours-few [] h = refl
+  neighbours-few (x ∷ []) h = refl
+  neighbours-few (x ∷ y ∷ l) h = absurd (omega arith)
+
+  pub neighbours-two : (l : List ℕ) → length l ≡ 2 → test (getD l 0 0) (getD l 1 0) ≡ neighbours test (getD l 0 0) (drop 1 l)
+  unfolding neighbours
+  neighbours-two [] h = absurd (omega arith)
+  neighbours-two (x ∷ []) h = absurd (omega arith)
+  neighbours-two (x ∷ y ∷ []) h = sym (and-yes (test x y))
+  neighbours-two (x ∷ y ∷ z ∷ l) h = absurd (omega arith)
 
 -- One number more is compared with the one before it.
 module _ (test : ℕ → ℕ → Bool) (l : List ℕ) (i : ℕ) where
