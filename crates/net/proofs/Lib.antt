@@ -10,4 +10,4 @@ pub mod RowsPass
 pub mod PairsPass
 pub mod NetTests
 pub mod EmptyChains
-pub mod Climbs
+pub mod Neighbours

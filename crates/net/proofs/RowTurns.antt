@@ -1,4 +1,4 @@
--- A turn and the end of the pass over the rows, and the two answers that one row gets.
+-- A turn and the end of the pass over the rows, and what one row is asked.
 -- True by the clauses of the passes: the rows from t on are row t and the rows behind it.
 use Prim.Native.Nat.{ℕ, suc, _+_, _-_, _≤_, _<_}
 use mathlib.Core.Path.{_≡_}
@@ -35,16 +35,14 @@ module _ (rows arcs : List ℕ) (places arc-count start t : ℕ) where
 
   module _ (third ins outs : ℕ) (is-third : third ≡ in-row rows t 3) (are-ins : ins ≡ in-row rows t 4) (are-outs : outs ≡ in-row rows t 5) where
     pub row-looked : (eqb third start && leb (start + (ins + outs)) arc-count) ≡ true
-        → (codes one two : Bool)
-        → codes ≡ codes-pass (in-row rows t 0) (in-row rows t 1) (in-row rows t 2)
-        → one ≡ list-passes places (take (start + ins - start) (drop start arcs))
-        → two ≡ list-passes places (take (start + (ins + outs) - (start + ins)) (drop (start + ins) arcs))
-        → (codes && (one && two)) ≡ row-passes rows arcs places arc-count start t
+        → row-passes rows arcs places arc-count start t
+        ≡ (codes-pass (in-row rows t 0) (in-row rows t 1) (in-row rows t 2)
+        && (list-passes places (take (start + ins - start) (drop start arcs)) && list-passes places (take (start + (ins + outs) - (start + ins)) (drop (start + ins) arcs))))
     unfolding row-passes
-    row-looked y codes one two p q r =
+    row-looked y =
         let n : start + ins - start ≡ ins = omega arith in
         let m : start + (ins + outs) - (start + ins) ≡ outs = omega arith in
-        rw (← is-third, ← are-ins, ← are-outs, y, p, q, r, n, m)
+        rw (← is-third, ← are-ins, ← are-outs, y, n, m)
 
     pub row-unlooked : (eqb third start && leb (start + (ins + outs)) arc-count) ≡ false → false ≡ row-passes rows arcs places arc-count start t
     unfolding row-passes

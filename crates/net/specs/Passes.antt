@@ -3,7 +3,7 @@ use Prim.Native.Nat.{ℕ, zero, suc, _+_, min, _<_}
 use mathlib.Core.List.{List, [], _∷_, map}
 use mathlib.Core.Bool.{Bool, true, not, _&&_, _||_}
 use lib.ListN.{length, take, drop}
-use lib.Dec.{eqb, leb, ltb}
+use lib.Dec.{eqb, leb}
 use Rattle.field.specs.Lists.{all}
 use Rattle.net.specs.Tables.{none}
 use Rattle.net.specs.Check.{rising}
@@ -17,10 +17,10 @@ codes-pass label first second = not (eqb label 128) && (leb label 255 && (leb fi
 unfoldable pub list-passes : ℕ → List ℕ → Bool
 list-passes places ps = leb 1 (length ps) && rising 0 places ps
 
--- Each number of a list is above the one before it, the first one above a number.
-unfoldable pub climbs : ℕ → List ℕ → Bool
-climbs x [] = true
-climbs x (y ∷ ys) = ltb x y && climbs y ys
+-- Each number of a list passes a test with the one before it, the first one with a number.
+unfoldable pub neighbours : (ℕ → ℕ → Bool) → ℕ → List ℕ → Bool
+neighbours test x [] = true
+neighbours test x (y ∷ ys) = test x y && neighbours test y ys
 
 -- Where the arcs of transition t end, if they start at a number.
 abbrev pub row-end : List ℕ → ℕ → ℕ → ℕ

@@ -2,9 +2,9 @@
 ghost use mathlib.Core.Path.{_≡_};
 ghost use Prim.Native.Nat.{_+_, _*_, _<_, _≤_};
 ghost use lib.ListN.{length, getD, drop};
-ghost use Rattle.net.specs.Check.{rising};
+ghost use lib.Dec.{ltb};
 ghost use Rattle.net.specs.Chains.{in-row};
-ghost use Rattle.net.specs.Passes.{climbs, codes-pass, list-passes, row-passes, rows-pass};
+ghost use Rattle.net.specs.Passes.{neighbours, codes-pass, list-passes, row-passes, rows-pass};
 
 fn wide(x: u16) -> usize
     ensures { λ r. ⌜ (r ≡ x) × (r < 65536) ⌝ }
@@ -24,7 +24,7 @@ pub fn number(rows: &[u16], t: usize, k: usize) -> usize
 // Each place number is above the one before it. All are compared, with no way out before the end, so that the machine can compare many at once.
 fn each_above(list: &[u16]) -> bool
     requires { ⌜ 1 ≤ length (now list) ⌝ }
-    ensures { λ r. ⌜ r ≡ climbs (getD (now (list .entry)) 0 0) (drop 1 (now (list .entry))) ⌝ }
+    ensures { λ r. ⌜ r ≡ neighbours ltb (getD (now (list .entry)) 0 0) (drop 1 (now (list .entry))) ⌝ }
 {
     let mut above = true;
     let mut i = 1;
@@ -35,21 +35,32 @@ fn each_above(list: &[u16]) -> bool
     above
 }
 
-// Each place number is above the one before it and below the number of places: so the last one is.
-fn rise(list: &[u16], places: usize) -> bool
-    ensures { λ r. ⌜ r ≡ rising 0 places (now (list .entry)) ⌝ }
+// The same for a list of any length. Most lists have one number or two, and are done before the comparing of many at once is set up.
+fn rise(list: &[u16]) -> bool
+    ensures { λ r. ⌜ r ≡ neighbours ltb (getD (now (list .entry)) 0 0) (drop 1 (now (list .entry))) ⌝ }
 {
-    let count = list.len();
-    if count == 0 {
+    if list.len() < 2 {
         return true;
     }
-    each_above(list) & (wide(list[count - 1]) < places)
+    if list.len() == 2 {
+        return list[0] < list[1];
+    }
+    each_above(list)
 }
 
+// There is a place number, each is above the one before it and below the number of places: so the last one is.
 fn list_fits(list: &[u16], places: usize) -> bool
     ensures { λ r. ⌜ r ≡ list-passes places (now (list .entry)) ⌝ }
 {
-    (1 <= list.len()) & rise(list, places)
+    let count = list.len();
+    if count == 0 {
+        return false;
+    }
+    if rise(list) {
+        wide(list[count - 1]) < places
+    } else {
+        false
+    }
 }
 
 fn codes_fit(rows: &[u16], t: usize) -> bool
@@ -79,11 +90,13 @@ fn row_fits(
     let middle = start + ins;
     let end = start + (ins + outs);
     if (number(rows, t, 3) == start) & (end <= arc_count) {
-        codes_fit(rows, t)
-            & (list_fits(&arcs[start..middle], places) & list_fits(&arcs[middle..end], places))
-    } else {
-        false
+        if codes_fit(rows, t) {
+            if list_fits(&arcs[start..middle], places) {
+                return list_fits(&arcs[middle..end], places);
+            }
+        }
     }
+    false
 }
 
 // Every row fits, each one's arcs start where those before it end, and the last end at the arc count.

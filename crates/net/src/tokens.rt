@@ -6,19 +6,17 @@ ghost use Rattle.field.specs.Answer.{check};
 ghost use Rattle.field.specs.Refusals.{no-marking};
 ghost use Rattle.net.specs.Marking.{check-room, check-marking};
 
-// No place holds more than one token.
+// No place holds more than one token. All are looked at, with no way out before the end, so that the machine can look at many at once.
 fn at_most_one(marking: &[u8]) -> bool
     ensures { λ r. ⌜ r ≡ all (λ x. leb x 1) (now (marking .entry)) ⌝ }
 {
+    let mut fine = true;
     let mut i = 0;
     while i < marking.len() {
-        if marking[i] <= 1 {
-            i += 1;
-        } else {
-            return false;
-        }
+        fine = fine & (marking[i] <= 1);
+        i += 1;
     }
-    true
+    fine
 }
 
 // There is a byte for each place: all that replay asks of a buffer that it fills itself.

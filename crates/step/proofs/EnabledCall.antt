@@ -6,8 +6,9 @@ use mathlib.Core.List.{List, [], _∷_, _++_}
 use mathlib.Core.Bool.{Bool, true, false}
 use native.Mathlib.Nat.{zero-add}
 use native.Mathlib.Omega.{arith}
-use borrow.Author.Tests.{le-leb, lt-leb}
+use borrow.Author.Tests.{leb-true}
 use lib.ListN.{length, take, drop}
+use lib.Dec.{leb}
 use lib.Seq.{sets, sets-eq}
 use Rattle.field.specs.Answer.{Answer, good, refused, _>>=_, _>>_, check}
 use Rattle.field.specs.Refusals.{no-marking, table-too-short}
@@ -41,27 +42,32 @@ module _ (tables : Tables) (m out : List ℕ) where
     pub no-marking-lent : d ≡ false → Lists (Refused 35 0) out tables m out
     no-marking-lent g = refuses 35 0 (unfold list-enabled check-net in rw (← e, t, f, g))
 
-    module _ (u : d ≡ true) (many : ℕ) (k : many ≡ length (enabled-from 0 (take (tables .places) m) (transitions-within (tables .rows) (tables .arcs) (tables .transitions)))) where
+    module _ (u : d ≡ true) (room : Bool)
+        (k : room ≡ leb (length (enabled-from 0 (take (tables .places) m) (transitions-within (tables .rows) (tables .arcs) (tables .transitions)))) (length out)) where
       abbrev numbers : List ℕ
       numbers = enabled-from 0 (take (tables .places) m) (transitions-in tables)
 
       same : enabled-from 0 (take (tables .places) m) (transitions-within (tables .rows) (tables .arcs) (tables .transitions)) ≡ numbers
       same = ap (enabled-from 0 (take (tables .places) m)) (sym (transitions-lent tables))
 
-      many-is : many ≡ length numbers
-      many-is = k ∙ ap length same
+      room-is : room ≡ leb (length numbers) (length out)
+      room-is = k ∙ ap (λ (l : List ℕ). leb (length l) (length out)) same
 
-      pub no-room-lent : length out < many → Lists (Refused 14 0) out tables m out
-      no-room-lent h = refuses 14 0 (unfold list-enabled check-net in rw (← e, t, f, u, ← many-is, lt-leb many (length out) h))
+      pub no-room-lent : room ≡ false → Lists (Refused 14 0) out tables m out
+      no-room-lent h = refuses 14 0 (unfold list-enabled check-net in rw (← e, t, f, u, ← room-is, h))
 
-      module _ (h : many ≤ length out) (exit : List ℕ)
+      module _ (h : room ≡ true) (many : ℕ) (exit : List ℕ)
+          (n : many ≡ length (enabled-from 0 (take (tables .places) m) (transitions-within (tables .rows) (tables .arcs) (tables .transitions))))
           (w : exit ≡ sets out 0 (enabled-from 0 (take (tables .places) m) (transitions-within (tables .rows) (tables .arcs) (tables .transitions)))) where
+        many-is : many ≡ length numbers
+        many-is = n ∙ ap length same
+
         good-list : good numbers ≡ list-enabled tables m out
         unfolding list-enabled check-net
-        good-list = rw (← e, t, f, u, ← many-is, le-leb many (length out) h)
+        good-list = rw (← e, t, f, u, ← room-is, h)
 
         written : exit ≡ numbers ++ drop (length numbers) out
-        written = w ∙ ap (sets out 0) same ∙ sets-front numbers out (omega (arith, many-is))
+        written = w ∙ ap (sets out 0) same ∙ sets-front numbers out (leb-true (length numbers) (length out) (sym room-is ∙ h))
 
         list-told : (r : Enabling) → enabling-says r ≡ good (how-many numbers) → Lists r exit tables m out
         unfolding enabled

@@ -42,3 +42,17 @@ module _ (rows arcs m : List ℕ) (n : ℕ) where
       pub enabled-not : b ≡ false → enabled-at rows arcs m n t ≡ enabled-at rows arcs m n (t + 1)
       unfolding enabled-from transitions-from
       enabled-not e = let z : n - t ≡ suc (n - (t + 1)) = omega arith in rw (z, ← f, e, add-one t)
+
+-- No more of so many transitions are enabled than there are.
+pub enabled-few : (rows arcs m : List ℕ) (n : ℕ) → length (enabled-from 0 m (transitions-within rows arcs n)) ≤ n
+unfolding enabled-from transitions-from
+enabled-few rows arcs m n = from 0 n
+  where
+    from : (t n : ℕ) → length (enabled-from t m (transitions-from (rows-and-arcs rows arcs) t n)) ≤ n
+    from t zero = omega arith
+    from t (suc n) = go (marked m (transition-in rows arcs t)) (from (suc t) n)
+      where
+        go : (b : Bool) → length (enabled-from (suc t) m (transitions-from (rows-and-arcs rows arcs) (suc t) n)) ≤ n
+            → length (cond b (t ∷ enabled-from (suc t) m (transitions-from (rows-and-arcs rows arcs) (suc t) n)) (enabled-from (suc t) m (transitions-from (rows-and-arcs rows arcs) (suc t) n))) ≤ suc n
+        go true h = omega arith
+        go false h = omega arith

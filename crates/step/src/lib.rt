@@ -83,11 +83,10 @@ pub fn enabled(
         return Enabling::Refused(field::NO_MARKING, 0);
     }
     let tokens = &marking[..places];
-    let many = listing::count(rows, arcs, tokens, transitions);
-    if out.len() < many {
+    if !listing::fit(rows, arcs, tokens, transitions, out.len()) {
         return Enabling::Refused(field::TABLE_TOO_SHORT, 0);
     }
-    listing::write(rows, arcs, tokens, transitions, out);
+    let many = listing::write(rows, arcs, tokens, transitions, out);
     if many == 0 {
         return Enabling::Stuck;
     }

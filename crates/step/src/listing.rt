@@ -20,7 +20,7 @@ fn is_marked(rows: &[u16], arcs: &[u16], marking: &[u8], t: usize) -> bool
     moving::all_hold(marking, moving::side(rows, arcs, t, moving::INPUTS), 1)
 }
 
-pub fn count(rows: &[u16], arcs: &[u16], marking: &[u8], transitions: usize) -> usize
+fn count(rows: &[u16], arcs: &[u16], marking: &[u8], transitions: usize) -> usize
     requires { ⌜ InOrder (now rows) (now arcs) transitions (length (now marking)) ⌝ }
     requires { ⌜ all (λ x. leb x 1) (now marking) ≡ true ⌝ }
     ensures { λ r. ⌜ r ≡ length (enabled-from 0 (now (marking .entry)) (transitions-within (now (rows .entry)) (now (arcs .entry)) transitions)) ⌝ }
@@ -38,12 +38,31 @@ pub fn count(rows: &[u16], arcs: &[u16], marking: &[u8], transitions: usize) -> 
     many
 }
 
-// Their numbers, from the front of `out` on, which has room for them.
-pub fn write(rows: &[u16], arcs: &[u16], marking: &[u8], transitions: usize, out: &mut [u16])
+// Whether so much room is enough for the enabled transitions. They are counted only where it is not enough for all transitions.
+pub fn fit(rows: &[u16], arcs: &[u16], marking: &[u8], transitions: usize, room: usize) -> bool
+    requires { ⌜ InOrder (now rows) (now arcs) transitions (length (now marking)) ⌝ }
+    requires { ⌜ all (λ x. leb x 1) (now marking) ≡ true ⌝ }
+    ensures { λ r. ⌜ r ≡ leb (length (enabled-from 0 (now (marking .entry)) (transitions-within (now (rows .entry)) (now (arcs .entry)) transitions))) room ⌝ }
+{
+    if transitions <= room {
+        return true;
+    }
+    count(rows, arcs, marking, transitions) <= room
+}
+
+// Their numbers, from the front of `out` on, which has room for them; and how many they are.
+pub fn write(
+    rows: &[u16],
+    arcs: &[u16],
+    marking: &[u8],
+    transitions: usize,
+    out: &mut [u16],
+) -> usize
     requires { ⌜ InOrder (now rows) (now arcs) transitions (length (now marking)) ⌝ }
     requires { ⌜ all (λ x. leb x 1) (now marking) ≡ true ⌝ }
     requires { ⌜ length (enabled-from 0 (now marking) (transitions-within (now rows) (now arcs) transitions)) ≤ length (now out) ⌝ }
-    ensures { λ _. ⌜ now (out .exit) ≡ sets (now (out .entry)) 0 (enabled-from 0 (now (marking .entry)) (transitions-within (now (rows .entry)) (now (arcs .entry)) transitions)) ⌝ }
+    ensures many { λ r. ⌜ r ≡ length (enabled-from 0 (now (marking .entry)) (transitions-within (now (rows .entry)) (now (arcs .entry)) transitions)) ⌝ }
+    ensures list { λ _. ⌜ now (out .exit) ≡ sets (now (out .entry)) 0 (enabled-from 0 (now (marking .entry)) (transitions-within (now (rows .entry)) (now (arcs .entry)) transitions)) ⌝ }
 {
     let mut many: usize = 0;
     let mut t: usize = 0;
@@ -56,4 +75,5 @@ pub fn write(rows: &[u16], arcs: &[u16], marking: &[u8], transitions: usize, out
             t += 1;
         }
     }
+    many
 }

@@ -2,9 +2,8 @@
 use Prim.Native.Nat.{ℕ, _≤_}
 use mathlib.Core.Path.{_≡_, refl, sym, subst, _∙_}
 use mathlib.Core.Bool.{true}
-use native.Mathlib.Omega.{arith}
 use borrow.Author.Needs.{needs}
-use borrow.Author.Tests.{not-true, not-false}
+use borrow.Author.Tests.{not-true, not-false, leb-true}
 use lib.ListN.{length, take}
 use lib.Seq.{length-take-le}
 use lib.Dec.{leb}
@@ -19,12 +18,12 @@ use Rattle.step.proofs.enabled.Reads as reads
 use Rattle.step.proofs.enabled.Lts as lts
 use Rattle.net.proofs.is_net.Reads as is-net-reads
 use Rattle.net.proofs.tokens.is_marking.Reads as is-marking-reads
-use Rattle.step.proofs.listing.count.Reads as count-reads
+use Rattle.step.proofs.listing.fit.Reads as fit-reads
 use Rattle.step.proofs.listing.write.Reads as write-reads
 
 -- where both checks were passed
 abbrev Passed : Type 0
-Passed = lts.After-tokens (is-net-reads.Asked, is-net-reads.Learnt, is-marking-reads.Asked, is-marking-reads.Learnt, count-reads.Asked, count-reads.Learnt, write-reads.Asked, write-reads.Learnt) reads.Pre reads.Post
+Passed = lts.After-tokens (is-net-reads.Asked, is-net-reads.Learnt, is-marking-reads.Asked, is-marking-reads.Learnt, fit-reads.Asked, fit-reads.Learnt, write-reads.Asked, write-reads.Learnt) reads.Pre reads.Post
 
 marked : (c : Passed) → (c .before .before .before .before .before .before .before .before .before .before .args .places ≤ length (c .before .before .before .before .before .before .before .before .before .before .args .marking .now)) × (all (λ x. leb x 1) (take (c .before .before .before .before .before .before .before .before .before .before .args .places) (c .before .before .before .before .before .before .before .before .before .before .args .marking .now)) ≡ true)
 marked c = marking-good (c .before .before .before .before .before .before .before .before .before .before .args .places) (c .before .before .before .before .before .before .before .before .before .before .args .marking .now) (c .before .before .is-marking .result) (c .before .before .is-marking .ensures) (not-false (c .before .before .is-marking .result) (c .before .if2 .left))
@@ -52,15 +51,15 @@ enabled-spec =
     (λ c.
     let p = c .before .before in let a = p .before .before .before .before .before .before .before .before .before .before .args in
     no-room-lent (lent (a .kinds .now) (a .rows .now) (a .arcs .now) (a .places) (a .transitions) (a .arc-count)) (a .marking .now) (a .out .now) (p .before .before .before .before .is-net .result) (p .before .before .before .before .is-net .ensures) (not-false (p .before .before .before .before .is-net .result) (p .before .before .before .if1 .left))
-    (p .before .before .is-marking .result) (p .before .before .is-marking .ensures) (not-false (p .before .before .is-marking .result) (p .before .if2 .left)) (c .before .count .result) (c .before .count .ensures) (c .if3 .taken))
-    (λ c κs. (order (c .before .before .before), (marked (c .before .before .before) .1, omega (arith, c .before .before .count .ensures, c .before .if3 .left))))
+    (p .before .before .is-marking .result) (p .before .before .is-marking .ensures) (not-false (p .before .before .is-marking .result) (p .before .if2 .left)) (c .before .fit .result) (c .before .fit .ensures) (not-true (c .before .fit .result) (c .if3 .taken)))
+    (λ c κs. (order (c .before .before .before), (marked (c .before .before .before) .1, leb-true _ _ (sym (c .before .before .fit .ensures) ∙ not-false (c .before .before .fit .result) (c .before .if3 .left)))))
     (λ c. search needs)
     (λ c.
     let p = c .before .before .before .before .before .before .before in let a = p .before .before .before .before .before .before .before .before .before .before .args in
     stuck-lent (lent (a .kinds .now) (a .rows .now) (a .arcs .now) (a .places) (a .transitions) (a .arc-count)) (a .marking .now) (a .out .now) (p .before .before .before .before .is-net .result) (p .before .before .before .before .is-net .ensures) (not-false (p .before .before .before .before .is-net .result) (p .before .before .before .if1 .left))
-    (p .before .before .is-marking .result) (p .before .before .is-marking .ensures) (not-false (p .before .before .is-marking .result) (p .before .if2 .left)) (c .before .before .before .before .before .before .count .result) (c .before .before .before .before .before .before .count .ensures) (c .before .before .before .before .before .if3 .left) _ (c .before .before .before .write .ensures) (c .if4 .taken))
+    (p .before .before .is-marking .result) (p .before .before .is-marking .ensures) (not-false (p .before .before .is-marking .result) (p .before .if2 .left)) (c .before .before .before .before .before .before .fit .result) (c .before .before .before .before .before .before .fit .ensures) (not-false (c .before .before .before .before .before .before .fit .result) (c .before .before .before .before .before .if3 .left)) (c .before .before .before .write .result) _ (c .before .before .before .write .ensures .0) (c .before .before .before .write .ensures .1) (c .if4 .taken))
     (λ c. search needs)
     (λ c.
     let p = c .before .before .before .before .before .before .before in let a = p .before .before .before .before .before .before .before .before .before .before .args in
     many-lent (lent (a .kinds .now) (a .rows .now) (a .arcs .now) (a .places) (a .transitions) (a .arc-count)) (a .marking .now) (a .out .now) (p .before .before .before .before .is-net .result) (p .before .before .before .before .is-net .ensures) (not-false (p .before .before .before .before .is-net .result) (p .before .before .before .if1 .left))
-    (p .before .before .is-marking .result) (p .before .before .is-marking .ensures) (not-false (p .before .before .is-marking .result) (p .before .if2 .left)) (c .before .before .before .before .before .before .count .result) (c .before .before .before .before .before .before .count .ensures) (c .before .before .before .before .before .if3 .left) _ (c .before .before .before .write .ensures) (c .if4 .left)))
+    (p .before .before .is-marking .result) (p .before .before .is-marking .ensures) (not-false (p .before .before .is-marking .result) (p .before .if2 .left)) (c .before .before .before .before .before .before .fit .result) (c .before .before .before .before .before .before .fit .ensures) (not-false (c .before .before .before .before .before .before .fit .result) (c .before .before .before .before .before .if3 .left)) (c .before .before .before .write .result) _ (c .before .before .before .write .ensures .0) (c .before .before .before .write .ensures .1) (c .if4 .left)))

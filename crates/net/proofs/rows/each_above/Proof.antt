@@ -4,13 +4,14 @@ use native.Mathlib.Omega.{arith}
 use mathlib.Core.Path.{_≡_, refl, sym}
 use mathlib.Core.Bool.{_&&_}
 use lib.ListN.{length, getD, drop}
-use Rattle.net.specs.Passes.{climbs}
-use Rattle.net.proofs.Climbs.{climbs-turn, climbs-end}
+use lib.Dec.{ltb}
+use Rattle.net.specs.Passes.{neighbours}
+use Rattle.net.proofs.Neighbours.{neighbours-turn, neighbours-end}
 use Rattle.net.proofs.rows.each_above.Statement.{statement}
 use Rattle.net.proofs.rows.each_above.Tie as tie
 
 abbrev Inv-loop : tie.InvT-loop
-Inv-loop list above₀ i₀ above i = (1 ≤ i) × (i ≤ length list) × (climbs (getD list 0 0) (drop 1 list) ≡ (above && climbs (getD list (i - 1) 0) (drop i list)))
+Inv-loop list above₀ i₀ above i = (1 ≤ i) × (i ≤ length list) × (neighbours ltb (getD list 0 0) (drop 1 list) ≡ (above && neighbours ltb (getD list (i - 1) 0) (drop i list)))
 
 abbrev μ-loop : tie.MeasureT-loop
 μ-loop list above₀ i₀ above i = length list - i
@@ -43,12 +44,12 @@ loop-again : tie.Need-loop-again Inv-loop μ-loop
 loop-again c =
     let l = c .before .before .before .loop in
     let list = c .before .before .before .before .args .list .now in
-    (omega arith, omega arith, climbs-turn list (l .i) (l .above) _ (l .inv .0) (omega arith) (l .inv .2))
+    (omega arith, omega arith, neighbours-turn ltb list (l .i) (l .above) _ (l .inv .0) (omega arith) (l .inv .2))
 
 returns : tie.Need-returns Inv-loop μ-loop
 returns c =
     let l = c .before .loop in
-    sym (climbs-end (c .before .before .args .list .now) (l .i) (l .above) _ (omega arith) (l .inv .2))
+    sym (neighbours-end ltb (c .before .before .args .list .now) (l .i) (l .above) _ (omega arith) (l .inv .2))
 
 pub each-above-spec : {M : Type 1} → statement M
 each-above-spec =

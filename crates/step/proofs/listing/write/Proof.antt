@@ -1,4 +1,4 @@
--- `write`: the list with all enabled ones written is the one so far with those of what is left written behind.
+-- `write`: the list with all enabled ones written is the one so far with those of what is left written behind, and as many are told.
 use Prim.Native.Nat.{ℕ, _+_, _≤_, _-_}
 use mathlib.Core.Path.{_≡_, refl, sym, ap, _∙_}
 use mathlib.Core.List.{List}
@@ -59,4 +59,5 @@ write-spec =
     (λ c. c .before .loop .inv .1)
     (λ c.
     let a = c .before .before .before .before .before .before .args in let l = c .before .loop in
-    sym (l .inv .3 ∙ ap (sets (l .out) (l .many)) (enabled-end (a .rows .now) (a .arcs .now) (a .marking .now) (a .transitions) (l .t) (omega arith)))))
+    let e = enabled-end (a .rows .now) (a .arcs .now) (a .marking .now) (a .transitions) (l .t) (omega arith) in
+    (omega (arith, ap length e), sym (l .inv .3 ∙ ap (sets (l .out) (l .many)) e))))
