@@ -143,18 +143,17 @@ fn store(counts: &mut [u16], k: usize, c: Counts)
     counts[3 * k + 2] = c.exits as u16;
 }
 
-// Counts the nodes below k, where those from k on are counted.
-fn count(rows: &[u16], k: usize, counts: &mut [u16])
-    requires { ⌜ (k ≤ 1366) × (3 * k ≤ length (now counts)) ⌝ }
-    ensures { λ _. ⌜ Counted (now (rows .entry)) k (now (counts .entry)) (now (counts .exit)) ⌝ }
+// Counts so many nodes, the last one first.
+fn count(rows: &[u16], nodes: usize, counts: &mut [u16])
+    requires { ⌜ (nodes ≤ 1366) × (3 * nodes ≤ length (now counts)) ⌝ }
+    ensures { λ _. ⌜ Counted (now (rows .entry)) nodes (now (counts .entry)) (now (counts .exit)) ⌝ }
 {
-    if k == 0 {
-        return;
+    let mut k = nodes;
+    while 0 < k {
+        k -= 1;
+        let c = counts_of(rows, k, counts);
+        store(counts, k, c);
     }
-    let node = k - 1;
-    let c = counts_of(rows, node, counts);
-    store(counts, node, c);
-    count(rows, node, counts);
 }
 
 // The counts of every node of the plan whose node table the rows begin with; what lies behind them is not written.

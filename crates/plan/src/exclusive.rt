@@ -10,6 +10,7 @@ use crate::tags::TAG;
 ghost use mathlib.Core.Path.{_≡_};
 ghost use Prim.Native.Nat.{_+_, _*_, _≤_};
 ghost use lib.ListN.{length, getD};
+ghost use Rattle.field.specs.Answer.{good};
 ghost use Rattle.algebra.specs.Expr.{Expr};
 ghost use Rattle.plan.specs.Loops.{no-fault, check-loops};
 ghost use Rattle.plan.specs.Table.{Table};
@@ -91,28 +92,29 @@ fn first_of(a: Loops, b: Loops) -> Loops
     }
 }
 
-// Judges the nodes below k, where those from k on are judged and their loops told.
-fn judge(rows: &[u16], k: usize, exclusive: &mut [u16], later: Loops) -> Loops
-    requires { ⌜ (k ≤ 1366) × (k ≤ length (now exclusive)) ⌝ }
-    ensures { λ r. ⌜ Judged (now (rows .entry)) k (now (exclusive .entry)) (now (exclusive .exit)) (loops-say later) (loops-say r) ⌝ }
+// Judges so many nodes, the last one first.
+fn judge(rows: &[u16], nodes: usize, exclusive: &mut [u16]) -> Loops
+    requires { ⌜ (nodes ≤ 1366) × (nodes ≤ length (now exclusive)) ⌝ }
+    ensures { λ r. ⌜ Judged (now (rows .entry)) nodes (now (exclusive .entry)) (now (exclusive .exit)) (good tt) (loops-say r) ⌝ }
 {
-    if k == 0 {
-        return later;
+    let mut found = Loops::Fine;
+    let mut k = nodes;
+    while 0 < k {
+        k -= 1;
+        exclusive[k] = is_exclusive(rows, k, exclusive);
+        let own = fault_of(rows, k, exclusive);
+        found = first_of(own, found);
     }
-    let node = k - 1;
-    exclusive[node] = is_exclusive(rows, node, exclusive);
-    let own = fault_of(rows, node, exclusive);
-    let found = first_of(own, later);
-    judge(rows, node, exclusive, found)
+    found
 }
 
-// The same for a plan of few nodes, with room that costs little to make.
+// The check for loops of a plan of few nodes, with room that costs little to make.
 fn check_few(rows: &[u16], nodes: usize) -> Loops
     requires { ⌜ nodes ≤ 64 ⌝ }
     ensures { λ r. ⌜ ((E : Expr) → Table (now (rows .entry)) nodes E → loops-say r ≡ check-loops E) ⌝ }
 {
     let mut exclusive = [0u16; FEW_NODES];
-    judge(rows, nodes, &mut exclusive, Loops::Fine)
+    judge(rows, nodes, &mut exclusive)
 }
 
 // The check for loops of the plan whose node table the rows begin with.
@@ -124,5 +126,5 @@ pub fn check_loops(rows: &[u16], nodes: usize) -> Loops
         return check_few(rows, nodes);
     }
     let mut exclusive = [0u16; 1366];
-    judge(rows, nodes, &mut exclusive, Loops::Fine)
+    judge(rows, nodes, &mut exclusive)
 }
