@@ -1,8 +1,8 @@
 // An index of the transitions by their first action. `head` has for each action the first transition of its chain, and `next`
 // for each transition the one after it on the same chain; 65,535 ends a chain. Who looks for an action's transitions meets these only.
 ghost use mathlib.Core.Path.{_≡_};
-ghost use Prim.Native.Nat.{ℕ, _*_, _<_, _≤_};
-ghost use lib.ListN.{length, getD, replicate};
+ghost use Prim.Native.Nat.{_*_, _≤_};
+ghost use lib.ListN.{length, replicate};
 ghost use Rattle.net.specs.Chains.{Chains, Kept};
 use crate::rows;
 
@@ -13,10 +13,17 @@ pub fn no_heads() -> [u16; 256]
     [65535u16; 256]
 }
 
+// Room for the transitions behind each one on its chain.
+pub fn no_nexts() -> [u16; 1024]
+    ensures { λ r. ⌜ r ≡ replicate 1024 0 ⌝ }
+{
+    [0u16; 1024]
+}
+
 // From the last transition down to the first, each goes to the front of its chain: so the numbers on a chain rise.
-fn link(rows: &[u16], transitions: usize, head: &mut [u16], next: &mut [u16])
+pub fn link(rows: &[u16], transitions: usize, head: &mut [u16], next: &mut [u16])
     requires { ⌜ (transitions ≤ 1024) × (6 * transitions ≤ length (now rows)) × (transitions ≤ length (now next)) × (256 ≤ length (now head)) ⌝ }
-    requires { ⌜ ((i : ℕ) → i < 256 → getD (now head) i 0 ≡ 65535) ⌝ }
+    requires { ⌜ now head ≡ replicate 256 65535 ⌝ }
     ensures { λ _. ⌜ Chains (now (rows .entry)) transitions (now (head .exit)) (now (next .exit)) ⌝ }
     ensures { λ _. ⌜ Kept (now (rows .entry)) transitions (now (next .entry)) (now (next .exit)) ⌝ }
 {

@@ -8,12 +8,6 @@ ghost use Rattle.net.specs.Passes.{second-or-256, seconds-differ, pairs-
 use crate::chains;
 use crate::rows;
 
-fn no_nexts() -> [u16; 1024]
-    ensures { λ r. ⌜ r ≡ replicate 1024 0 ⌝ }
-{
-    [0u16; 1024]
-}
-
 fn no_stamps() -> [u16; 257]
     ensures { λ r. ⌜ r ≡ replicate 257 0 ⌝ }
 {
@@ -102,14 +96,20 @@ fn chains_differ(
     true
 }
 
-pub fn differ(rows: &[u16], transitions: usize) -> bool
+// The index of the transitions is left in `head` and `next`, for who looks for an action later.
+pub fn differ(
+    rows: &[u16],
+    transitions: usize,
+    head: &mut [u16; 256],
+    next: &mut [u16; 1024],
+) -> bool
     requires { ⌜ (transitions ≤ 1024) × (6 * transitions ≤ length (now rows)) ⌝ }
+    requires { ⌜ now head ≡ replicate 256 65535 ⌝ }
     ensures { λ r. ⌜ r ≡ pairs-pass (now (rows .entry)) transitions ⌝ }
+    ensures { λ r. ⌜ Chains (now (rows .entry)) transitions (now (head .exit)) (now (next .exit)) ⌝ }
 {
-    let mut head = chains::no_heads();
-    let mut next = no_nexts();
-    chains::index_by_first(rows, transitions, &mut head, &mut next);
+    chains::link(rows, transitions, head, next);
     let mut stamps = no_stamps();
     let chains = chain_count(rows, transitions);
-    chains_differ(rows, transitions, &head, &next, chains, &mut stamps)
+    chains_differ(rows, transitions, head, next, chains, &mut stamps)
 }
