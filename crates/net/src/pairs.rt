@@ -1,5 +1,6 @@
 // No two transitions have the same pair of actions. The transitions of one first action stand on one chain, so it is enough that no second
-// action comes twice on a chain; this takes two steps for each transition and one for each action up to the highest that comes first.
+// action comes twice on a chain. Where they do not rise on every chain, the chains are walked: two steps for each transition and one for each
+// action up to the highest that comes first.
 ghost use mathlib.Core.Path.{_≡_};
 ghost use Prim.Native.Nat.{ℕ, _+_, _*_, _<_, _≤_};
 ghost use lib.ListN.{length, getD, replicate};
@@ -108,7 +109,9 @@ pub fn differ(
     ensures { λ r. ⌜ r ≡ pairs-pass (now (rows .entry)) transitions ⌝ }
     ensures { λ r. ⌜ Chains (now (rows .entry)) transitions (now (head .exit)) (now (next .exit)) ⌝ }
 {
-    chains::link(rows, transitions, head, next);
+    if chains::link(rows, transitions, head, next) {
+        return true;
+    }
     let mut stamps = no_stamps();
     let chains = chain_count(rows, transitions);
     chains_differ(rows, transitions, head, next, chains, &mut stamps)
