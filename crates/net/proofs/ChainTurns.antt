@@ -9,7 +9,7 @@ use native.Mathlib.Nat.{sub-zero}
 use native.Mathlib.Numerals.{add-one}
 use native.Mathlib.Omega.{arith}
 use borrow.Author.Tests.{eqb-true, eqb-false, ne-eqb}
-use lib.ListN.{length, getD, set}
+use lib.ListN.{length, getD, getD-replicate, set, replicate}
 use lib.Seq.{getD-set-same, getD-set-other}
 use lib.Dec.{eqb}
 use Rattle.net.specs.Tables.{none}
@@ -75,9 +75,10 @@ module _ (rows : List ℕ) where
             subst⁻¹ (λ (m : ℕ). Walk next′ m (with-first rows i (u + 1) (n - (u + 1)))) (getD-set-other head f i u 0 (λ e. unlike refl (sym e))) (old i k)
 
   -- Before the first turn there is no chain, and after the last there are all.
-  pub chains-none : (n : ℕ) (head next : List ℕ) → ((i : ℕ) → i < 256 → getD head i 0 ≡ none) → ChainsFrom rows n n head next
+  pub chains-none : (n : ℕ) (head next : List ℕ) → head ≡ replicate 256 none → ChainsFrom rows n n head next
   unfolding Walk
-  chains-none n head next e i l = subst⁻¹ (Walk next (getD head i 0)) (with-first-end i n n (omega arith)) (e i l)
+  chains-none n head next e i l =
+      subst⁻¹ (Walk next (getD head i 0)) (with-first-end i n n (omega arith)) (ap (λ (k : List ℕ). getD k i 0) e ∙ getD-replicate 256 i none 0 l)
 
   pub chains-all : (t n : ℕ) (head next : List ℕ) → t ≤ 0 → ChainsFrom rows t n head next → Chains rows n head next
   chains-all t n head next h inv i l =

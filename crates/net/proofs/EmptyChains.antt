@@ -17,7 +17,8 @@ none-with rows i t (suc n) h =
     ap (λ b. keep b t (with-first rows i (suc t) n)) (ne-eqb (in-row rows t 1) i (h t (omega arith)))
     ∙ none-with rows i (suc t) n (λ k l. h k (omega arith))
 
-each-all : (test : ℕ → Bool) (i m : ℕ) → ((j : ℕ) → i ≤ j → j < i + m → test j ≡ true) → each test i m ≡ true
+-- Where each number passes a test, all do.
+pub each-all : (test : ℕ → Bool) (i m : ℕ) → ((j : ℕ) → i ≤ j → j < i + m → test j ≡ true) → each test i m ≡ true
 unfolding each
 each-all test i zero h = refl
 each-all test i (suc m) h = ap₂ _&&_ (h i (omega arith) (omega arith)) (each-all test (suc i) m (λ j a b. h j (omega arith) (omega arith)))

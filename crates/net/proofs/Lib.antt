@@ -11,3 +11,4 @@ pub mod PairsPass
 pub mod NetTests
 pub mod EmptyChains
 pub mod Neighbours
+pub mod RisingChains

@@ -44,7 +44,8 @@ module _ (rows next : List ℕ) (i : ℕ) where
       go false b v rest = let r = rest v in (omega arith, r .1)
 
   module _ (n : ℕ) (few : n ≤ none) where
-    settle : (t at : ℕ) → t ≤ n → Walk next at (with-first rows i t (n - t)) → (t ≤ at) × (with-first rows i t (n - t) ≡ ahead rows n i at) × Stands rows n next i at
+    -- A walk of the transitions from t on stands where it begins.
+    pub settle : (t at : ℕ) → t ≤ n → Walk next at (with-first rows i t (n - t)) → (t ≤ at) × (with-first rows i t (n - t) ≡ ahead rows n i at) × Stands rows n next i at
     settle t at h w =
         let r = walk-from (n - t) t n at (omega arith) few w in
         (r .0, r .1, subst (Walk next at) (r .1) w)

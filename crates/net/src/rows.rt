@@ -6,7 +6,7 @@ ghost use lib.Dec.{ltb};
 ghost use Rattle.net.specs.Chains.{in-row};
 ghost use Rattle.net.specs.Passes.{neighbours, codes-pass, list-passes, row-passes, rows-pass};
 
-fn wide(x: u16) -> usize
+pub fn wide(x: u16) -> usize
     ensures { λ r. ⌜ (r ≡ x) × (r < 65536) ⌝ }
 {
     x as usize

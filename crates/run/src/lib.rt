@@ -38,7 +38,7 @@ pub fn run_record(
     ensures { λ r. ⌜ ((N : Net) → N .transitions ≡ transitions-within (now (rows .entry)) (now (arcs .entry)) transitions → N .entries + N .internals ≡ «exits_from» → (ran-says r ≡ run N 0 (now (marking .entry)) (read-steps 0 0 (now («record» .entry))) .verdict) × (now (marking .exit) ≡ run N 0 (now (marking .entry)) (read-steps 0 0 (now («record» .entry))) .marking)) ⌝ }
 {
     let mut head = net::no_heads();
-    let mut next = step::firing::no_nexts();
+    let mut next = net::no_nexts();
     net::index_by_first(rows, transitions, &mut head, &mut next);
     let mut firsts = step::form::no_numbers();
     let mut seconds = step::form::no_numbers();

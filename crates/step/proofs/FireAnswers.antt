@@ -15,9 +15,14 @@ use Rattle.field.specs.Refusals.{no-transition, two-tokens}
 use Rattle.algebra.specs.Item.{Item}
 use Rattle.algebra.specs.Net.{Transition}
 use Rattle.algebra.specs.Firing.{transitions-named, check-marked, check-apart, moved, fire-items}
+use Rattle.step.specs.Form.{read-lent-step}
+use Rattle.step.specs.Fire.{read-and-fire}
+use Rattle.step.specs.FormSays.{items-in, items-say}
 use Rattle.step.specs.Moving.{sides, moves, Fits, AllFit}
 use Rattle.step.specs.Naming.{transition-in, transitions-within, found-says, InOrder}
 use Rattle.step.specs.Says.{Moves}
+use Rattle.step.specs.declared.form.ItemsAnswer.{ItemsAnswer}
+use Rattle.step.specs.declared.form.ItemsAnswer.the-variants as items-answer
 use Rattle.step.specs.declared.Fired.{Fired}
 use Rattle.step.specs.declared.Fired.the-variants.{Done, Refused}
 use Rattle.step.proofs.MovesAreFiring.{ins-of, outs-of, Safe}
@@ -52,3 +57,16 @@ module _ (rows arcs : List ℕ) (transitions : ℕ) (is : List Item) (m ts : Lis
         (sym (both-sides rows arcs ts (moves m))
         ∙ moves-are m (map (transition-in rows arcs) ts) (below-all m safe) (transitions-rise rows arcs transitions (length m) o ts (λ i g. f i (omega arith)))
         ∙ sym (fire-named (transitions-within rows arcs transitions) m is (map (transition-in rows arcs) ts) named)) d
+
+-- The answers of `read_and_fire`: a step that is not read is refused, and one that is read fires its items.
+module _ (net : List Transition) (m s : List ℕ) (q : ItemsAnswer) (firsts seconds : List ℕ) (read : items-say 0 q firsts seconds ≡ read-lent-step s) where
+  pub step-refused : (n : ℕ) → q ≡ items-answer.Refused n → Moves (Refused n 0) m m (read-and-fire net m s)
+  step-refused n e =
+      let told : refused n 0 ≡ read-lent-step s = sym (ap (λ (a : ItemsAnswer). items-say 0 a firsts seconds) e) ∙ read in
+      moves-refused n 0 m m (read-and-fire net m s) (rw (← told)) refl
+
+  pub step-fired : (count : ℕ) → q ≡ items-answer.Items count → (r : Fired) (m′ : List ℕ) → Moves r m m′ (fire-items net m (items-in count firsts seconds))
+      → Moves r m m′ (read-and-fire net m s)
+  step-fired count e r m′ moves =
+      let told : good (items-in count firsts seconds) ≡ read-lent-step s = sym (ap (λ (a : ItemsAnswer). items-say 0 a firsts seconds) e) ∙ read in
+      subst (λ (a : Answer (List Item)). Moves r m m′ (a >>= fire-items net m)) told moves

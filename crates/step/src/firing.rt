@@ -1,18 +1,20 @@
-// Finds the transitions that a step's items name, and fires them: 31, and then 32, 33, 36.
+// Finds the transitions that a step's items name, and fires them: 31, and then 32, 33, 36; for a lent step, behind its form.
 ghost use mathlib.Core.Path.{_≡_};
 ghost use mathlib.Core.Bool.{true};
 ghost use mathlib.Core.List.{List};
 ghost use Prim.Native.Nat.{ℕ, _*_, _<_, _≤_};
-ghost use lib.ListN.{length, getD, replicate};
+ghost use lib.ListN.{length, getD};
 ghost use lib.Dec.{leb};
 ghost use Rattle.field.specs.Lists.{all};
 ghost use Rattle.algebra.specs.Firing.{transitions-named, fire-items};
 ghost use Rattle.net.specs.Chains.{Chains};
+ghost use Rattle.step.specs.Fire.{read-and-fire};
 ghost use Rattle.step.specs.FormSays.{paired, Bytes};
 ghost use Rattle.step.specs.Naming.{transitions-within, seek, found-says, InOrder};
 ghost use Rattle.step.specs.Says.{Moves};
 use crate::Fired;
 use crate::form;
+use crate::form::ItemsAnswer;
 use crate::moving;
 
 // The transition, of so many, that has these two actions; the number of transitions where there is none. Only the chain of the first
@@ -101,41 +103,38 @@ pub fn fire_items(
     moving::move_tokens(rows, arcs, marking, ts)
 }
 
-// Room for the index of the transitions by their first action.
-pub fn no_nexts() -> [u16; field::TRANSITION_LIMIT]
-    ensures { λ r. ⌜ r ≡ replicate 1024 0 ⌝ }
-{
-    [0u16; field::TRANSITION_LIMIT]
-}
-
-// The same where there is no index of the transitions yet.
-pub fn index_and_fire(
+// The one step field that is lent is read, and its items are fired.
+pub fn read_and_fire(
     rows: &[u16],
     arcs: &[u16],
     transitions: usize,
-    firsts: &[u16],
-    seconds: &[u16],
+    head: &[u16; 256],
+    next: &[u16; 1024],
+    step: &[u8],
     marking: &mut [u8],
 ) -> Fired
     requires { ⌜ InOrder (now rows) (now arcs) transitions (length (now marking)) ⌝ }
     requires { ⌜ all (λ x. leb x 1) (now marking) ≡ true ⌝ }
-    requires { ⌜ (length (now firsts) ≡ length (now seconds)) × (length (now firsts) ≤ 256) × Bytes (length (now firsts)) (now firsts) ⌝ }
-    ensures { λ r. ⌜ Moves r (now (marking .entry)) (now (marking .exit)) (fire-items (transitions-within (now (rows .entry)) (now (arcs .entry)) transitions) (now (marking .entry)) (paired (now (firsts .entry)) (now (seconds .entry)))) ⌝ }
+    requires { ⌜ Chains (now rows) transitions (now head) (now next) ⌝ }
+    ensures { λ r. ⌜ Moves r (now (marking .entry)) (now (marking .exit)) (read-and-fire (transitions-within (now (rows .entry)) (now (arcs .entry)) transitions) (now (marking .entry)) (now (step .entry))) ⌝ }
 {
-    let mut head = net::no_heads();
-    let mut next = no_nexts();
-    net::index_by_first(rows, transitions, &mut head, &mut next);
-    let mut ts = form::no_numbers();
-    let count = firsts.len();
-    fire_items(
-        rows,
-        arcs,
-        transitions,
-        &head,
-        &next,
-        firsts,
-        seconds,
-        &mut ts[..count],
-        marking,
-    )
+    let mut firsts = form::no_numbers();
+    let mut seconds = form::no_numbers();
+    match form::read_lent_step(step, &mut firsts, &mut seconds) {
+        ItemsAnswer::Refused(number) => Fired::Refused(number, 0),
+        ItemsAnswer::Items(count) => {
+            let mut ts = form::no_numbers();
+            fire_items(
+                rows,
+                arcs,
+                transitions,
+                head,
+                next,
+                &firsts[..count],
+                &seconds[..count],
+                &mut ts[..count],
+                marking,
+            )
+        }
+    }
 }

@@ -5,7 +5,6 @@ ghost use Rattle.net.specs.Lent.{lent};
 ghost use Rattle.step.specs.Fire;
 ghost use Rattle.step.specs.Enabled;
 ghost use Rattle.step.specs.Says.{fired-says, enabling-says};
-use crate::form::ItemsAnswer;
 
 pub mod firing;
 pub mod form;
@@ -39,27 +38,32 @@ pub fn fire(
     ensures answer { λ r. ⌜ fired-says r ≡ Fire.fire (lent (now (kinds .entry)) (now (rows .entry)) (now (arcs .entry)) places transitions «arc_count») (now (marking .entry)) (now (step .entry)) .answer ⌝ }
     ensures marking { λ r. ⌜ now (marking .exit) ≡ Fire.fire (lent (now (kinds .entry)) (now (rows .entry)) (now (arcs .entry)) places transitions «arc_count») (now (marking .entry)) (now (step .entry)) .marking ⌝ }
 {
-    if !net::is_net(kinds, rows, arcs, places, transitions, arc_count) {
+    let mut head = net::no_heads();
+    let mut next = net::no_nexts();
+    if !net::is_net_with_index(
+        kinds,
+        rows,
+        arcs,
+        places,
+        transitions,
+        arc_count,
+        &mut head,
+        &mut next,
+    ) {
         return Fired::Refused(field::NO_NET, 0);
     }
     if !net::tokens::is_marking(marking, places) {
         return Fired::Refused(field::NO_MARKING, 0);
     }
-    let mut firsts = form::no_numbers();
-    let mut seconds = form::no_numbers();
-    match form::read_lent_step(step, &mut firsts, &mut seconds) {
-        ItemsAnswer::Refused(number) => Fired::Refused(number, 0),
-        ItemsAnswer::Items(count) => {
-            firing::index_and_fire(
-                rows,
-                arcs,
-                transitions,
-                &firsts[..count],
-                &seconds[..count],
-                &mut marking[..places],
-            )
-        }
-    }
+    firing::read_and_fire(
+        rows,
+        arcs,
+        transitions,
+        &head,
+        &next,
+        step,
+        &mut marking[..places],
+    )
 }
 
 // Lists the enabled transitions. On refusal nothing is written, and what lies behind the list is never touched.

@@ -1,8 +1,4 @@
 -- `index_by_first`: the heads are those of no chains, and `link` builds the chains. Assumes nothing.
-use mathlib.Core.Path.{ap, _∙_}
-use mathlib.Core.List.{List}
-use Prim.Native.Nat.{ℕ}
-use lib.ListN.{getD, getD-replicate}
 use borrow.Author.Needs.{needs}
 use Rattle.net.proofs.chains.index_by_first.Statement.{statement}
 use Rattle.net.proofs.chains.index_by_first.Tie as tie
@@ -12,5 +8,5 @@ index-by-first-spec =
     tie.close
     (tie.spec
     (λ c κs. search needs)
-    (λ c κs. (search needs, λ i l. ap (λ (k : List ℕ). getD k i 0) (c .before .before .no-heads .ensures) ∙ getD-replicate 256 i 65535 0 l))
+    (λ c κs. (search needs, c .before .before .no-heads .ensures))
     (λ c. search needs))
