@@ -3,7 +3,6 @@ use Prim.Native.Nat.{ℕ}
 use mathlib.Core.List.{List, _++_}
 use lib.ListN.{take, drop}
 use Rattle.field.specs.Answer.{Answer, good, refused, _>>=_, _>>_}
-use Rattle.algebra.specs.Net.{Transition}
 use Rattle.net.specs.Tables.{Tables, transitions-in}
 use Rattle.net.specs.Check.{check-net}
 use Rattle.net.specs.Marking.{check-marking}
@@ -30,7 +29,3 @@ fired T m (refused n c) = record { answer = refused n c; marking = m }
 unfoldable pub fire : Tables → List ℕ → List ℕ → Fired
 unfolding fire-step
 fire T m s = fired T m (fire-step T m s)
-
--- What is left of the call behind 30 and 35, on the net's transitions and its part of the marking: step form, then 31 to 33, 36.
-abbrev pub read-and-fire : List Transition → List ℕ → List ℕ → Answer (List ℕ)
-read-and-fire net m s = read-lent-step s >>= (λ is. fire-items net m is)

@@ -3,6 +3,9 @@ use Prim.Native.Nat.{ℕ}
 use mathlib.Core.Path.{_≡_}
 use mathlib.Core.List.{List}
 use Rattle.field.specs.Answer.{Answer, good, refused, _>>=_, _>>_}
+use Rattle.algebra.specs.Net.{Transition}
+use Rattle.algebra.specs.Firing.{fire-items}
+use Rattle.step.specs.Form.{read-lent-step}
 use Rattle.step.specs.Enabled as enabled
 use Rattle.step.specs.declared.Enabling.{Enabling}
 use Rattle.step.specs.declared.Enabling.the-variants as enabling-answer
@@ -31,3 +34,7 @@ kept m (refused n c) = m
 pub record Moves (r : Fired) (entry exit : List ℕ) (answer : Answer (List ℕ)) : Type 0 where
   pub says : fired-says r ≡ told answer
   pub leaves : exit ≡ kept entry answer
+
+-- What is left of the call behind 30 and 35, on the net's transitions and its part of the marking: step form, then 31 to 33, 36.
+abbrev pub read-and-fire : List Transition → List ℕ → List ℕ → Answer (List ℕ)
+read-and-fire net m s = read-lent-step s >>= (λ is. fire-items net m is)
