@@ -1,19 +1,20 @@
 -- Merging two rising lists: the union of the numbers of the places that pass one test or another, and the turns of the loop that writes it.
--- Both lists are written down while the places are walked once, so the next number of the union is the lesser of the two next ones.
-use Prim.Native.Nat.{ℕ, suc, _+_, _-_, _≤_, _<_, min}
+-- Both lists are written down while the places are walked once, so the numbers of one below the next of the other come first in the union.
+use Prim.Native.Nat.{ℕ, zero, suc, _+_, _-_, _≤_, _<_}
 use native.Mathlib.Omega.{arith}
 use native.Mathlib.Numerals.{add-one}
 use native.Mathlib.Nat.{add-zero, add-suc}
 use mathlib.Core.Path.{_≡_, refl, sym, _∙_, ap, ap₂}
 use mathlib.Core.Bool.{Bool, true, false, cond, _||_}
 use mathlib.Core.List.{List, [], _∷_, _++_, append-nil}
-use lib.ListN.{length, getD, take, drop, set, length-set, length-drop, take-append-drop, drop-of-length-le}
+use lib.ListN.{length, getD, take, drop, set, length-append, length-drop, take-append-drop, drop-of-length-le}
 use lib.Dec.{ltb}
-use lib.Seq.{sets, drop-cons, take-all, take-set-le, drop-set-add}
+use lib.Seq.{sets, length-sets, length-take-le, take-suc, drop-cons, drop-drop, getD-drop, take-all, take-set-le, drop-set-add}
 use borrow.Author.Tests.{lt-ltb, le-ltb}
 use Rattle.algebra.specs.Places.{Place}
 use Rattle.algebra.specs.Arcs.{numbers}
-use Rattle.arcs.specs.Merge.{into, union, Merged}
+use Rattle.plan.proofs.Stores.{sets-append}
+use Rattle.arcs.specs.Merge.{into, union, Below, Run, Merged}
 
 into-low : (a : ℕ) (rest : List ℕ → List ℕ) (b : ℕ) (bs : List ℕ) → a < b → into a rest (b ∷ bs) ≡ a ∷ rest (b ∷ bs)
 unfolding into
@@ -55,6 +56,15 @@ unfolding union
 low-second b [] bs h = refl
 low-second b (x ∷ cs) bs h = into-high x (union cs) b bs h
 
+-- The numbers below the first of the other list come before the rest of the union.
+run-first : (b : ℕ) (l cs bs : List ℕ) → Below b l → From b bs → union (l ++ cs) bs ≡ l ++ union cs bs
+run-first b [] cs bs h f = refl
+run-first b (a ∷ l) cs bs h f = low-first a (l ++ cs) bs (lower (suc a) b bs (h .0) f) ∙ ap (λ m. a ∷ m) (run-first b l cs bs (h .1) f)
+
+run-second : (b : ℕ) (l cs bs : List ℕ) → Below b l → From b cs → union cs (l ++ bs) ≡ l ++ union cs bs
+run-second b [] cs bs h f = refl
+run-second b (a ∷ l) cs bs h f = low-second a cs (l ++ bs) (lower (suc a) b cs (h .0) f) ∙ ap (λ m. a ∷ m) (run-second b l cs bs (h .1) f)
+
 same-first : (x : ℕ) (ms ns : List ℕ) → union (x ∷ ms) (x ∷ ns) ≡ x ∷ union ms ns
 unfolding union
 same-first x ms ns = into-same x (union ms) x ns refl
@@ -89,6 +99,39 @@ copy-next list out i n h = ap (sets out n) (head list i h) ∙ ap (λ k. sets (s
 pub copy-end : (list out : List ℕ) (i n : ℕ) → length list ≤ i → sets out n (drop i list) ≡ out
 copy-end list out i n h = ap (sets out n) (drop-of-length-le list h)
 
+-- ---- the run: the numbers below a bound
+below-snoc : (b : ℕ) (l : List ℕ) (x : ℕ) → Below b l → x < b → Below b (l ++ (x ∷ []))
+below-snoc b [] x h k = (k, tt)
+below-snoc b (a ∷ l) x h k = (h .0, below-snoc b l x (h .1) k)
+
+pub run-start : (list : List ℕ) (from bound : ℕ) (before : List ℕ) (at : ℕ) → from ≤ length list → at ≤ length before → Run list from bound before at 0 before
+run-start list from bound before at h k = record { there = omega arith; room = omega arith; below = tt; written = refl }
+
+-- Where the first is below the bound, one that is not is not the first.
+pub run-some : (list : List ℕ) (from bound n : ℕ) → bound ≤ getD list (from + n) 0 → getD list from 0 < bound → 0 < n
+run-some list from bound zero h l = absurd (omega (arith, ap (λ k. getD list k 0) (add-zero from)))
+run-some list from bound (suc n) h l = omega arith
+
+module _ {list : List ℕ} {from bound : ℕ} {before : List ℕ} {at n : ℕ} {out : List ℕ} (g : Run list from bound before at n out) where
+  run-long : length (take n (drop from list)) ≡ n
+  run-long = length-take-le n (drop from list) (omega (arith, g .there, length-drop from list))
+
+  pub run-next : from + n < length list → at + n < length before → getD list (from + n) 0 < bound → Run list from bound before at (n + 1) (set out (at + n) (getD list (from + n) 0))
+  run-next h k l =
+      let v : ℕ = getD list (from + n) 0 in
+      let so-far : List ℕ = take n (drop from list) in
+      let next : take (n + 1) (drop from list) ≡ so-far ++ (v ∷ []) = ap (λ m. take m (drop from list)) (add-one n) ∙ take-suc (drop from list) n 0 (omega (arith, length-drop from list)) ∙ ap (λ x. so-far ++ (x ∷ [])) (getD-drop from list n 0) in
+      record {
+        there = omega arith;
+        room = omega arith;
+        below = rw next (below-snoc bound so-far v (g .below) l);
+        written = ap (λ o. set o (at + n) v) (g .written) ∙ sym (ap (sets before at) next ∙ sets-append before at so-far (v ∷ []) ∙ ap (λ m. set (sets before at so-far) (at + m) v) run-long);
+      }
+
+  -- What is left is the run and what comes behind it.
+  run-parts : drop from list ≡ take n (drop from list) ++ drop (from + n) list
+  run-parts = sym (take-append-drop n (drop from list)) ∙ ap (λ l. take n (drop from list) ++ l) (drop-drop n from list)
+
 -- ---- the loop: what is written, and what is left
 pub record Merging (A B before out : List ℕ) (i j n : ℕ) : Type 0 where
   pub first : i ≤ length A
@@ -121,33 +164,37 @@ none-second [] = refl
 none-second (x ∷ ms) = ap (λ l. x ∷ l) (none-second ms)
 
 module _ {A B before out : List ℕ} {i j n : ℕ} (g : Merging A B before out i j n) where
-  -- The next number is written.
-  wrote : {i′ j′ v : ℕ} → n < length out → i′ ≤ length A → j′ ≤ length B → union (drop i A) (drop j B) ≡ v ∷ union (drop i′ A) (drop j′ B) → Merging A B before (set out n v) i′ j′ (n + 1)
-  wrote {i′} {j′} {v} h a b e = record {
-    first = a;
-    second = b;
-    long = length-set out n v ∙ g .long;
-    room = omega (arith, length-set out n v);
-    all = omega (arith, g .all, ap length e);
-    is = g .is ∙ ap (sets out n) e ∙ ap (λ k. sets (set out n v) k (union (drop i′ A) (drop j′ B))) (sym (add-one n));
-  }
+  -- The next numbers are written.
+  wrote : {i′ j′ r : ℕ} {after : List ℕ} (l : List ℕ) → length l ≡ r → n + r ≤ length out → after ≡ sets out n l → i′ ≤ length A → j′ ≤ length B
+      → union (drop i A) (drop j B) ≡ l ++ union (drop i′ A) (drop j′ B) → Merging A B before after i′ j′ (n + r)
+  wrote {i′} {j′} {r} {after} l q h w a b e =
+      let left : List ℕ = union (drop i′ A) (drop j′ B) in
+      let long : length after ≡ length out = ap length w ∙ length-sets out n l in
+      record {
+        first = a;
+        second = b;
+        long = long ∙ g .long;
+        room = omega arith;
+        all = omega (arith, g .all, ap length e, length-append l left);
+        is = g .is ∙ ap (sets out n) e ∙ sets-append out n l left ∙ ap₂ (λ o k. sets o (n + k) left) (sym w) q;
+      }
 
-  module _ (h : i < length A) (k : j < length B) (m : n < length out) {v : ℕ} (e : v ≡ min (getD A i 0) (getD B j 0)) where
-    pub turn-first : getD A i 0 < getD B j 0 → Merging A B before (set out n v) (i + 1) j (n + 1)
-    turn-first l =
-        let q : v ≡ getD A i 0 = omega arith in
-        wrote m (omega arith) (omega arith) (rw (head A i h, head B j k, q) (low-first (getD A i 0) (drop (i + 1) A) _ l))
+  pub turn-first : {r : ℕ} {after : List ℕ} → Run A i (getD B j 0) out n r after → j < length B → Merging A B before after (i + r) j (n + r)
+  turn-first {r} {after} run k =
+      let low : From (getD B j 0) (drop j B) = rw (head B j k) (omega arith) in
+      wrote (take r (drop i A)) (run-long run) (run .room) (run .written) (run .there) (omega arith)
+      (ap (λ l. union l (drop j B)) (run-parts run) ∙ run-first (getD B j 0) (take r (drop i A)) (drop (i + r) A) (drop j B) (run .below) low)
 
-    pub turn-second : getD B j 0 < getD A i 0 → Merging A B before (set out n v) i (j + 1) (n + 1)
-    turn-second l =
-        let q : v ≡ getD B j 0 = omega arith in
-        wrote m (omega arith) (omega arith) (rw (head A i h, head B j k, q) (low-second (getD B j 0) _ (drop (j + 1) B) l))
+  pub turn-second : {r : ℕ} {after : List ℕ} → Run B j (getD A i 0) out n r after → i < length A → Merging A B before after i (j + r) (n + r)
+  turn-second {r} {after} run k =
+      let low : From (getD A i 0) (drop i A) = rw (head A i k) (omega arith) in
+      wrote (take r (drop j B)) (run-long run) (run .room) (run .written) (omega arith) (run .there)
+      (ap (union (drop i A)) (run-parts run) ∙ run-second (getD A i 0) (take r (drop j B)) (drop i A) (drop (j + r) B) (run .below) low)
 
-    pub turn-both : getD B j 0 ≤ getD A i 0 → getD A i 0 ≤ getD B j 0 → Merging A B before (set out n v) (i + 1) (j + 1) (n + 1)
-    turn-both l p =
-        let q : v ≡ getD A i 0 = omega arith in
-        let s : getD B j 0 ≡ getD A i 0 = omega arith in
-        wrote m (omega arith) (omega arith) (rw (head A i h, head B j k, q, s) (same-first (getD A i 0) (drop (i + 1) A) (drop (j + 1) B)))
+  pub turn-both : i < length A → j < length B → n < length out → getD B j 0 ≤ getD A i 0 → getD A i 0 ≤ getD B j 0 → Merging A B before (set out n (getD A i 0)) (i + 1) (j + 1) (n + 1)
+  turn-both h k m l p =
+      let s : getD B j 0 ≡ getD A i 0 = omega arith in
+      wrote (getD A i 0 ∷ []) refl (omega arith) refl (omega arith) (omega arith) (rw (head A i h, head B j k, s) (same-first (getD A i 0) (drop (i + 1) A) (drop (j + 1) B)))
 
   -- The room ends before the lists do.
   pub merge-full : i < length A → length out ≤ n → Merged (length before) (n + 1) (union A B) before out

@@ -1,11 +1,11 @@
 // Two rising lists made one: the numbers of both, in order, and a number of both once.
 ghost use mathlib.Core.Path.{_≡_};
-ghost use Prim.Native.Nat.{_+_, _≤_, min};
-ghost use lib.ListN.{length, drop};
+ghost use Prim.Native.Nat.{_+_, _≤_, _<_, min};
+ghost use lib.ListN.{length, getD, drop};
 ghost use lib.Seq.{sets};
-ghost use Rattle.arcs.specs.Merge.{union, Merged};
+ghost use Rattle.arcs.specs.Merge.{union, Run, Merged};
 
-fn lesser(x: u16, y: u16) -> u16
+fn lesser(x: usize, y: usize) -> usize
     ensures { λ r. ⌜ r ≡ min x y ⌝ }
 {
     if x < y { x } else { y }
@@ -30,8 +30,28 @@ fn copy_rest(list: &[u16], from: usize, out: &mut [u16], at: usize) -> usize
     end
 }
 
+// The numbers of the list from `from` on that are below a bound, as many as come one after another and find room from `at` on. Answers
+// how many, and not 0 where the first is below the bound and finds room.
+fn copy_below(list: &[u16], from: usize, bound: u16, out: &mut [u16], at: usize) -> usize
+    requires { ⌜ (from ≤ length (now list)) × (at ≤ length (now out)) ⌝ }
+    ensures { λ r. ⌜ Run (now (list .entry)) from bound (now (out .entry)) at r (now (out .exit)) × (from < length (now (list .entry)) → at < length (now (out .entry)) → getD (now (list .entry)) from 0 < bound → 0 < r) ⌝ }
+{
+    let most = lesser(list.len() - from, out.len() - at);
+    let mut n = 0;
+    while n < most {
+        let x = list[from + n];
+        if bound <= x {
+            return n;
+        }
+        out[at + n] = x;
+        n += 1;
+    }
+    n
+}
+
 // Two rising lists made one, in front of `out`. Answers how many numbers that are; where they are more than `out` holds, a number above
-// its length. The lesser of the two next numbers is written while both lists have one, and then what is left of the other list.
+// its length. While both lists have a number left, the numbers of one that are below the next of the other are written, or the number
+// that is next in both; and then what is left of one.
 pub fn merge(first: &[u16], second: &[u16], out: &mut [u16]) -> usize
     ensures { λ r. ⌜ Merged (length (now (out .entry))) r (union (now (first .entry)) (now (second .entry))) (now (out .entry)) (now (out .exit)) ⌝ }
 {
@@ -47,15 +67,19 @@ pub fn merge(first: &[u16], second: &[u16], out: &mut [u16]) -> usize
         }
         let x = first[i];
         let y = second[j];
-        out[n] = lesser(x, y);
-        n += 1;
         if x < y {
-            i += 1;
+            let run = copy_below(first, i, y, out, n);
+            i += run;
+            n += run;
         } else if y < x {
-            j += 1;
+            let run = copy_below(second, j, x, out, n);
+            j += run;
+            n += run;
         } else {
+            out[n] = x;
             i += 1;
             j += 1;
+            n += 1;
         }
     }
     copy_rest(second, j, out, n)

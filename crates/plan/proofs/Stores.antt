@@ -13,7 +13,7 @@ use Rattle.plan.specs.Nodes.{Row, row, numbers, node-count, nodes}
 use Rattle.plan.specs.Inner.{with-row}
 use Rattle.plan.proofs.Rows.{numbers-append, numbers-length, nodes-length}
 
-sets-append : (l : List ℕ) (i : ℕ) (xs ys : List ℕ) → sets l i (xs ++ ys) ≡ sets (sets l i xs) (i + length xs) ys
+pub sets-append : (l : List ℕ) (i : ℕ) (xs ys : List ℕ) → sets l i (xs ++ ys) ≡ sets (sets l i xs) (i + length xs) ys
 sets-append l i [] ys = rw add-zero
 sets-append l i (x ∷ xs) ys = sets-append (set l i x) (suc i) xs ys ∙ ap (λ (k : ℕ). sets (sets (set l i x) (suc i) xs) k ys) (omega arith)
 

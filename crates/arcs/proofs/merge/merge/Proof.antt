@@ -1,10 +1,9 @@
 -- `merge` meets its contract: the run of stores of the whole union is what is written and the run of the union of what is left,
--- and each turn writes its next number. Assumes nothing.
+-- and each turn writes its next numbers. Assumes nothing.
 use Prim.Native.Nat.{_+_, _-_}
 use native.Mathlib.Omega.{arith}
 use mathlib.Core.Path.{_∙_}
 use lib.ListN.{length}
-use borrow.Author.Needs.{needs}
 use Rattle.arcs.proofs.Merges.{Merging, merge-start, turn-first, turn-second, turn-both, merge-full, first-copied, second-copied}
 use Rattle.arcs.proofs.merge.merge.Statement.{statement}
 use Rattle.arcs.proofs.merge.merge.Tie as tie
@@ -34,23 +33,32 @@ merge-spec =
     (λ c. omega arith)
     (λ c. omega arith)
     (λ c. omega arith)
-    (λ c κs. search needs)
+    (λ c κs. (omega arith, omega arith))
+    (λ c. omega arith)
+    (λ c. omega arith)
+    (λ c. let b = c .before .before .before .before in
+    let r = c .before .before .copy-below .ensures in
+    let some = r .1 (omega arith) (omega arith) (b .if3 .taken) in
+    omega arith)
+    (λ c. let b = c .before .before .before .before .before .before .before in
+    turn-first (b .before .before .before .loop .inv) (c .before .before .copy-below .ensures .0) (b .before .if1 .left))
+    (λ c κs. (omega arith, omega arith))
+    (λ c. omega arith)
+    (λ c. omega arith)
+    (λ c. let b = c .before .before .before .before in
+    let r = c .before .before .copy-below2 .ensures in
+    let some = r .1 (omega arith) (omega arith) (b .if4 .taken) in
+    omega arith)
+    (λ c. let b = c .before .before .before .before .before .before .before .before in
+    turn-second (b .before .before .before .loop .inv) (c .before .before .copy-below2 .ensures .0) (b .before .before .loop-test .taken))
+    (λ c. omega arith)
     (λ c. omega arith)
     (λ c. omega arith)
     (λ c. omega arith)
     (λ c. omega arith)
     (λ c. omega arith)
     (λ c. let b = c .before .before .before .before in
-    turn-first (b .before .before .before .loop .inv) (b .before .before .loop-test .taken) (b .before .if1 .left) (b .if2 .left) (c .before .lesser .ensures) (c .if3 .taken))
-    (λ c. omega arith)
-    (λ c. omega arith)
-    (λ c. let b = c .before .before .before .before .before in
-    turn-second (b .before .before .before .loop .inv) (b .before .before .loop-test .taken) (b .before .if1 .left) (b .if2 .left) (c .before .before .lesser .ensures) (c .if4 .taken))
-    (λ c. omega arith)
-    (λ c. omega arith)
-    (λ c. omega arith)
-    (λ c. let b = c .before .before .before .before .before in
-    turn-both (b .before .before .before .loop .inv) (b .before .before .loop-test .taken) (b .before .if1 .left) (b .if2 .left) (c .before .before .lesser .ensures) (c .before .if3 .left) (c .if4 .left))
+    turn-both (b .before .before .before .loop .inv) (b .before .before .loop-test .taken) (b .before .if1 .left) (b .if2 .left) (c .before .if3 .left) (c .if4 .left))
     (λ c κs. (c .before .before .loop .inv .second, c .before .before .loop .inv .room))
     (λ c. c .before .before .copy-rest2 .kept .1 .1 .0 ∙ c .before .before .before .before .before .loop .inv .long)
     (λ c. let r = c .before .before .copy-rest2 .ensures in
