@@ -1,11 +1,11 @@
 -- One level down: if a node's rows lead from its lists to the final numbers, then an operand's rows lead from its own.
 -- True because a move keeps positions in their own list or makes them internal, and internal positions only ever shift.
-use Prim.Native.Nat.{ℕ, _+_, _*_, _≤_, _<_}
+use Prim.Native.Nat.{ℕ, _+_, _≤_, _<_}
 use native.Mathlib.Omega.{arith}
 use mathlib.Core.Path.{_≡_, refl, sym, _∙_, ap, subst}
 use mathlib.Core.Logic.{_⊎_, inl, inr}
 use mathlib.Core.List.{List}
-use lib.ListN.{length, getD}
+use lib.ListN.{length}
 use Rattle.algebra.specs.Expr.{Expr, action, sequence, choice, parallel, loop, scope, actions}
 use Rattle.plan.specs.Table.{tag-at}
 use Rattle.arcs.specs.Positions.{stretched, repeated}

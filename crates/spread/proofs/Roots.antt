@@ -2,7 +2,7 @@
 -- True because the entries come first among the places, then the internals, then the exits.
 use Prim.Native.Nat.{ℕ, _+_, _*_, _≤_, _<_}
 use native.Mathlib.Omega.{arith}
-use mathlib.Core.Path.{_≡_, refl, sym, _∙_, ap, ap₂, subst}
+use mathlib.Core.Path.{_≡_, refl, sym, _∙_, ap, subst}
 use mathlib.Core.List.{List}
 use lib.ListN.{length, getD, take, drop, length-drop}
 use lib.Seq.{length-take-le, getD-take, getD-drop, ext-getD}
@@ -15,7 +15,6 @@ use Rattle.arcs.specs.Moves.{own, shift, moved, base}
 use Rattle.arcs.specs.Search.{counts-at, At, In}
 use Rattle.arcs.specs.declared.moves.Side.{Side}
 use Rattle.arcs.specs.declared.moves.Side.the-variants.{Inputs, Outputs}
-use Rattle.arcs.specs.declared.moves.Kind.{Kind}
 use Rattle.arcs.specs.declared.moves.Kind.the-variants.{Entry, Internal, Exit}
 use Rattle.arcs.specs.declared.moves.Counts.{Counts}
 use Rattle.arcs.specs.declared.moves.Move.{Move}
@@ -25,7 +24,7 @@ use Rattle.plan.specs.Nodes.{node-count}
 use Rattle.plan.proofs.NodeValues.{table-node}
 use Rattle.spread.specs.Path.{final, Lowers}
 use Rattle.spread.specs.Walk.{row-of, arcs, Leads, Here, Listed}
-use Rattle.spread.specs.Stack.{Pending, On, Done, Reached, All}
+use Rattle.spread.specs.Stack.{Pending, Reached, All}
 use Rattle.spread.specs.Spread.{Of, Part, Places, Spreads}
 use Rattle.spread.specs.declared.kids.Spot.{Spot}
 use Rattle.spread.proofs.Images.{linked-kept, lowers-later}
@@ -71,7 +70,7 @@ module _ (rows : List ℕ) (nodes : ℕ) (counts : List ℕ) (R : Expr) (of : Of
     }
 
 -- ---- the lists
-pub part-of : (room index : List ℕ) (upto s c : ℕ) (l : List ℕ) → upto ≤ length room → c ≡ s + 1 → Listed room index upto s l → Part room (getD index s 0) (getD index c 0) l
+part-of : (room index : List ℕ) (upto s c : ℕ) (l : List ℕ) → upto ≤ length room → c ≡ s + 1 → Listed room index upto s l → Part room (getD index s 0) (getD index c 0) l
 part-of room index upto s c l h e t =
     let a : getD index c 0 ≡ length l = ap (λ x. getD index x 0) e ∙ t .all in
     let b : getD index s 0 + getD index c 0 ≤ length room = omega (arith, t .inside) in

@@ -81,7 +81,7 @@ spot-kept stack other t k at same =
     ∙ ap₂ (λ x y. spot-of (lists-of (getD stack (4 * t + 0) 0) (getD stack (4 * t + 1) 0) x) k y at t) (same (4 * t + 2) (omega arith)) (same (4 * t + 3) (omega arith))
 
 -- ---- bounds
-pub stands-of : {l : Lists} {free : ℕ} (k at top : ℕ) → Inside l free → free ≤ 656 → Stands-in (spot-of l k free at top)
+stands-of : {l : Lists} {free : ℕ} (k at top : ℕ) → Inside l free → free ≤ 656 → Stands-in (spot-of l k free at top)
 stands-of k at top i h = record { entry-some = i .entry-some; exit-some = i .exit-some; entry-low = i .entry-low; exit-low = i .exit-low; small = i .small; room = h }
 
 pub rest-pushed : (stack other : List ℕ) (l : Lists) (free d : ℕ) → other ≡ push-put stack d l free → 4 * d + 4 ≤ length stack → Inside l free → free ≤ 656
@@ -131,7 +131,7 @@ sound-pop {stack} s k at h e i =
     })
 
 -- ---- the rows still lead to the final numbers
-pub leads-kept : {rows counts : List ℕ} {nodes : ℕ} {R : Expr} {n : ℕ} {E : Expr} {s : Spot} (path other : List ℕ) → ((j : ℕ) → j < s .free → getD other j 0 ≡ getD path j 0) → length other ≡ length path
+leads-kept : {rows counts : List ℕ} {nodes : ℕ} {R : Expr} {n : ℕ} {E : Expr} {s : Spot} (path other : List ℕ) → ((j : ℕ) → j < s .free → getD other j 0 ≡ getD path j 0) → length other ≡ length path
     → Leads rows counts nodes R n E path s → Leads rows counts nodes R n E other s
 leads-kept {s = s} path other same long l = record {
   led = record { long = long ∙ l .led .long; entry = linked-kept path other (s .free) same (s .free) (l .led .entry) (omega arith); exit = linked-kept path other (s .free) same (s .free) (l .led .exit) (omega arith) };

@@ -23,7 +23,7 @@ use Rattle.spread.specs.declared.kids.Spot.{Spot}
 use Rattle.spread.specs.declared.kids.Lists.{Lists}
 use Rattle.spread.specs.declared.kids.Two.{Two}
 use Rattle.spread.specs.declared.kids.Three.{Three}
-use Rattle.spread.proofs.Operands.{Pair, Triple, scope-kid, sequence-kids, choice-kids, parallel-kids, loop-kids}
+use Rattle.spread.proofs.Operands.{Pair, scope-kid, sequence-kids, choice-kids, parallel-kids, loop-kids}
 use Rattle.spread.proofs.KidRows.{kin-as, scope-kin}
 use Rattle.spread.proofs.Downs.{leads-below}
 use Rattle.spread.proofs.Listings.{done-more}

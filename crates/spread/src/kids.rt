@@ -28,6 +28,7 @@ pub struct Spot {
     pub top: usize,
 }
 
+// The rows of an operand's entries and of its exits, and the final number of its first internal place.
 pub struct Lists {
     pub entry: usize,
     pub exit: usize,
@@ -41,6 +42,7 @@ pub struct Two {
     pub second: Lists,
 }
 
+// The same of a loop's operands.
 pub struct Three {
     pub fits: bool,
     pub first: Lists,

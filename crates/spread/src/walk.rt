@@ -21,7 +21,7 @@ ghost use lib.ListN.{length, getD};
 ghost use Rattle.algebra.specs.Expr.{Expr};
 ghost use Rattle.plan.specs.Table.{tag-at};
 ghost use Rattle.arcs.specs.Moves.{Small};
-ghost use Rattle.arcs.specs.Search.{counts-at, first-at};
+ghost use Rattle.arcs.specs.Search.{counts-at};
 ghost use Rattle.spread.specs.Kids.{spot-of, stop-at, Stands-in, Inside};
 ghost use Rattle.spread.specs.Walk.{Tables, Inner, pair-put, PutOutputs, Put};
 ghost use Rattle.spread.specs.Stack.{spot-at, push-put, Sound, Steps, Reached, All};
@@ -141,6 +141,7 @@ fn under(s: Spot, l: Lists, top: usize) -> Spot
     }
 }
 
+// An operand waits: its lists, and where its free rows begin.
 fn push(stack: &mut [u16; 272], t: usize, l: Lists, free: usize)
     requires { ⌜ (t ≤ 67) × Inside l free × (free ≤ 656) ⌝ }
     ensures { λ _. ⌜ now (stack .exit) ≡ push-put (now (stack .entry)) t l free ⌝ }

@@ -2,7 +2,7 @@
 -- Assumes nothing.
 use Prim.Native.Nat.{_+_, _*_, _≤_}
 use native.Mathlib.Omega.{arith}
-use mathlib.Core.Path.{_≡_, _∙_, ap}
+use mathlib.Core.Path.{_∙_, ap}
 use lib.ListN.{length}
 use Rattle.spread.specs.declared.kids.Spot.{Spot}
 use Rattle.spread.proofs.Stacks.{pushed-long, rest-pushed, sound-stop, sound-down}

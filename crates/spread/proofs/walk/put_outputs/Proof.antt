@@ -1,8 +1,7 @@
 -- `put_outputs` meets its contract: one list more, behind the other, and the places of both in the index.
 -- Assumes nothing.
 use native.Mathlib.Omega.{arith}
-use mathlib.Core.Path.{_∙_, ap}
-use lib.ListN.{length}
+use mathlib.Core.Path.{_∙_}
 use Rattle.spread.proofs.Listings.{put-outputs, made-from}
 use borrow.Author.Needs.{needs}
 use Rattle.spread.proofs.walk.put_outputs.Statement.{statement}
