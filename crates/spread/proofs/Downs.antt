@@ -1,11 +1,11 @@
 -- One level down: if a node's rows lead from its lists to the final numbers, then an operand's rows lead from its own.
 -- True because a move keeps positions in their own list or makes them internal, and internal positions only ever shift.
-use Prim.Native.Nat.{ℕ, _+_, _*_, _≤_, _<_}
+use Prim.Native.Nat.{ℕ, _+_, _≤_, _<_}
 use native.Mathlib.Omega.{arith}
 use mathlib.Core.Path.{_≡_, refl, sym, _∙_, ap, subst}
 use mathlib.Core.Logic.{_⊎_, inl, inr}
 use mathlib.Core.List.{List}
-use lib.ListN.{length, getD}
+use lib.ListN.{length}
 use Rattle.algebra.specs.Expr.{Expr, action, sequence, choice, parallel, loop, scope, actions}
 use Rattle.plan.specs.Table.{tag-at}
 use Rattle.arcs.specs.Positions.{stretched, repeated}
@@ -24,8 +24,8 @@ use Rattle.arcs.proofs.Sizes.{sizes, move-of}
 use Rattle.arcs.proofs.Children.{picks, moves}
 use Rattle.arcs.proofs.Searches.{goes}
 use Rattle.spread.specs.Path.{final}
-use Rattle.spread.specs.Kids.{carried, carried-on, Kin}
-use Rattle.spread.specs.Walk.{row-of, arcs, Stay, Leads, Here, Kid, under}
+use Rattle.spread.specs.Kids.{carried, carried-on, spot-of, Kin}
+use Rattle.spread.specs.Walk.{row-of, arcs, Stay, Leads, Here, Kid}
 use Rattle.spread.specs.declared.kids.Spot.{Spot}
 use Rattle.spread.specs.declared.kids.Lists.{Lists}
 use Rattle.spread.proofs.Shifts.{shifted-twice}
@@ -120,10 +120,10 @@ on-own Outputs path row base m ps e = ap (λ k. carried-on k path row base (move
 on-inner : (path : List ℕ) (row base : ℕ) (m : Move) (ps : List ℕ) → m .kind ≡ Internal → carried path row base m ps ≡ stretched 1 base (moved m ps)
 on-inner path row base m ps e = ap (λ k. carried-on k path row base (moved m ps)) e
 
-kin-row : {path other : List ℕ} {s : Spot} {l : Lists} {m : Kind → Move} (c at : ℕ) (side : Side) (ps : List ℕ) → Kin path other s l m
-    → final other (row-of side (under s l c at)) ps ≡ carried path (row-of side s) (s .base) (m (own side)) ps
-kin-row c at Inputs ps k = k .entry-is ps
-kin-row c at Outputs ps k = k .exit-is ps
+kin-row : {path other : List ℕ} {s : Spot} {l : Lists} {m : Kind → Move} (c free at top : ℕ) (side : Side) (ps : List ℕ) → Kin path other s l m
+    → final other (row-of side (spot-of l c free at top)) ps ≡ carried path (row-of side s) (s .base) (m (own side)) ps
+kin-row c free at top Inputs ps k = k .entry-is ps
+kin-row c free at top Outputs ps k = k .exit-is ps
 
 internal-twice : (m : Move) (base : ℕ) → Shifts m → (ps : List ℕ) → stretched 1 base (moved m ps) ≡ stretched 1 (base + m .off) ps
 unfolding moved
@@ -153,9 +153,9 @@ module _ (rows counts : List ℕ) (nodes : ℕ) (s : Spot) (n : ℕ) (E : Expr) 
   move-shifts : (i : ℕ) → m ≤ i → i < m + actions X → Shifts (move-by rows counts (s .node) operand Internal)
   move-shifts i low high = subst Shifts (sym (moves rows counts nodes (s .node) i n operand Internal E inner (inside i low high))) (shifts E operand)
 
-  module _ (R : Expr) (path other : List ℕ) (l : Lists) (at : ℕ) (leads : Leads rows counts nodes R n E path s) (kin : Kin path other s l (move-by rows counts (s .node) operand)) (long : length other ≡ length path) where
-    outer-below : (side : Side) (i : ℕ) → m ≤ i → i < m + actions X → (ps : List ℕ) → Stay rows counts nodes c side i (own side) ps → arcs R side i ≡ final other (row-of side (under s l c at)) ps
-    outer-below side i low high ps found = go (move-keeps i low high (own side)) ∙ sym (kin-row c at side ps kin)
+  module _ (R : Expr) (path other : List ℕ) (l : Lists) (at top : ℕ) (leads : Leads rows counts nodes R n E path s) (kin : Kin path other s l (move-by rows counts (s .node) operand)) (long : length other ≡ length path) where
+    outer-below : (side : Side) (i : ℕ) → m ≤ i → i < m + actions X → (ps : List ℕ) → Stay rows counts nodes c side i (own side) ps → arcs R side i ≡ final other (row-of side (spot-of l c (s .free + 20) at top)) ps
+    outer-below side i low high ps found = go (move-keeps i low high (own side)) ∙ sym (kin-row c (s .free + 20) at top side ps kin)
       where
         go : Keeps (own side) (move-by rows counts (s .node) operand (own side)) → arcs R side i ≡ carried path (row-of side s) (s .base) (move-by rows counts (s .node) operand (own side)) ps
         go (inl e) =
@@ -172,7 +172,7 @@ module _ (rows counts : List ℕ) (nodes : ℕ) (s : Spot) (n : ℕ) (E : Expr) 
         (led side i Internal Internal ps low high found (ap (λ (x : Move). x .kind) z))
         ∙ internal-twice (move-by rows counts (s .node) operand Internal) (s .base) z ps ∙ ap (λ x. stretched 1 x ps) (sym (kin .base-is))
 
-    pub leads-below : Leads rows counts nodes R m X other (under s l c at)
+    pub leads-below : Leads rows counts nodes R m X other (spot-of l c (s .free + 20) at top)
     leads-below = record {
       led = record { long = long ∙ leads .led .long; entry = kin .entry-linked; exit = kin .exit-linked };
       outer = outer-below;

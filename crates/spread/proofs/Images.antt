@@ -1,6 +1,6 @@
 -- The rows of the path: what stands in a row that is put, what it makes of positions, and that rows put later change nothing of it.
 -- True because each number is stored at a place of its own, behind all rows in use, and a row goes on with an earlier one.
-use Prim.Native.Nat.{ℕ, zero, suc, _+_, _*_, _≤_, _<_}
+use Prim.Native.Nat.{ℕ, zero, suc, _+_, _≤_, _<_}
 use native.Mathlib.Omega.{arith}
 use native.Mathlib.Decide.{decLt}
 use mathlib.Core.Path.{_≡_, refl, sym, _∙_, ap, ap₂, subst}
@@ -81,7 +81,7 @@ same? a b = go (decLt a b) (decLt b a)
     go (no h) (yes k) = no (λ e. omega arith)
     go (no h) (no k) = yes (omega arith)
 
-pub risen-is : (path : List ℕ) (row : ℕ) {up left right step off : ℕ} → Row path row up left right step off → (ps : List ℕ) → risen path row ps ≡ laid left right step off ps
+risen-is : (path : List ℕ) (row : ℕ) {up left right step off : ℕ} → Row path row up left right step off → (ps : List ℕ) → risen path row ps ≡ laid left right step off ps
 risen-is path row {up} {left} {right} {step} {off} r ps =
     ap₂ (λ x y. laid x (getD path (row + 2) 0) y (getD path (row + 4) 0) ps) (r .left-is) (r .step-is)
     ∙ ap₂ (λ x y. laid left x step y ps) (r .right-is) (r .off-is)

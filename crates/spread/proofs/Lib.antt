@@ -4,10 +4,9 @@ pub mod Images
 pub mod RowsBelow
 pub mod KidRows
 pub mod Climbs
-pub mod Acts
 pub mod Operands
 pub mod Downs
-pub mod Dids
-pub mod ActionWalks
-pub mod Walks
+pub mod Listings
+pub mod Stacks
+pub mod Steps
 pub mod Roots

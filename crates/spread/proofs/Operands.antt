@@ -22,10 +22,12 @@ module _ (rows counts : List ℕ) (nodes k n : ℕ) where
   pub record Pair (P E F : Expr) : Type 0 where
     pub first : Kid rows counts nodes k n P First (k + 1) n E
     pub second : Kid rows counts nodes k n P Second (after-at rows (k + 1)) (n + actions E) F
+    pub next : after-at rows (k + 1) ≡ k + 1 + node-count E
 
   pub record Triple (P E F G : Expr) : Type 0 where
     pub pair : Pair P E F
     pub third : Kid rows counts nodes k n P Third (after-at rows (after-at rows (k + 1))) (n + actions E + actions F) G
+    pub last : after-at rows (after-at rows (k + 1)) ≡ k + 1 + node-count E + node-count F
 
   module _ (P E F : Expr) (parts : Two rows counts nodes k n E F) (fewE : length (places n E) ≤ place-limit) (fewF : length (places (n + actions E) F) ≤ place-limit)
       (n6 : tag-at rows k ≡ 6 → ⊥) where
@@ -50,6 +52,7 @@ module _ (rows counts : List ℕ) (nodes k n : ℕ) where
         high = omega arith;
         by = λ i low high. last-child rows k refl i refl refl n6 n5 (omega (arith, second-from rows counts nodes k n E F parts));
       };
+      next = second-at rows counts nodes k n E F parts;
     }
 
     module _ (G : Expr) (last : At rows counts nodes (k + 1 + node-count E + node-count F) (n + actions E + actions F) G) where
@@ -63,7 +66,9 @@ module _ (rows counts : List ℕ) (nodes k n : ℕ) where
             high = omega arith;
             by = λ i low high. loop-second rows k refl i refl refl t (omega (arith, second-from rows counts nodes k n E F parts)) refl refl (omega (arith, third-from rows counts nodes k n E F parts G last));
           };
+          next = second-at rows counts nodes k n E F parts;
         };
+        last = third-at rows counts nodes k n E F parts G last;
         third = record {
           here = record { at = subst (λ c. At rows counts nodes c (n + actions E + actions F) G) (sym (third-at rows counts nodes k n E F parts G last)) last; few = fewG };
           low = omega arith;

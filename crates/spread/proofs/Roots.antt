@@ -2,7 +2,7 @@
 -- True because the entries come first among the places, then the internals, then the exits.
 use Prim.Native.Nat.{ℕ, _+_, _*_, _≤_, _<_}
 use native.Mathlib.Omega.{arith}
-use mathlib.Core.Path.{_≡_, refl, sym, _∙_, ap, ap₂, subst}
+use mathlib.Core.Path.{_≡_, refl, sym, _∙_, ap, subst}
 use mathlib.Core.List.{List}
 use lib.ListN.{length, getD, take, drop, length-drop}
 use lib.Seq.{length-take-le, getD-take, getD-drop, ext-getD}
@@ -15,22 +15,23 @@ use Rattle.arcs.specs.Moves.{own, shift, moved, base}
 use Rattle.arcs.specs.Search.{counts-at, At, In}
 use Rattle.arcs.specs.declared.moves.Side.{Side}
 use Rattle.arcs.specs.declared.moves.Side.the-variants.{Inputs, Outputs}
-use Rattle.arcs.specs.declared.moves.Kind.{Kind}
 use Rattle.arcs.specs.declared.moves.Kind.the-variants.{Entry, Internal, Exit}
 use Rattle.arcs.specs.declared.moves.Counts.{Counts}
 use Rattle.arcs.specs.declared.moves.Move.{Move}
 use Rattle.arcs.proofs.Sizes.{sizes, counts-here}
 use Rattle.arcs.proofs.Transitions.{arcs-are, counted-all}
+use Rattle.plan.specs.Nodes.{node-count}
 use Rattle.plan.proofs.NodeValues.{table-node}
 use Rattle.spread.specs.Path.{final, Lowers}
-use Rattle.spread.specs.Walk.{row-of, arcs, Leads, Here, Listed, State, state, Did, Walked}
+use Rattle.spread.specs.Walk.{row-of, arcs, Leads, Here, Listed}
+use Rattle.spread.specs.Stack.{Pending, Reached, All}
 use Rattle.spread.specs.Spread.{Of, Part, Places, Spreads}
 use Rattle.spread.specs.declared.kids.Spot.{Spot}
 use Rattle.spread.proofs.Images.{linked-kept, lowers-later}
 use Rattle.spread.proofs.KidRows.{still}
 
 abbrev root : Counts → Spot
-root c = record { node = 0; entry = 1; exit = 6; base = c .entries; free = 11; at = 0 }
+root c = record { node = 0; entry = 1; exit = 6; base = c .entries; free = 11; at = 0; top = 0 }
 
 module _ (rows : List ℕ) (nodes : ℕ) (counts : List ℕ) (R : Expr) (of : Of rows nodes counts R) where
   root-at : At rows counts nodes 0 0 R
@@ -69,7 +70,7 @@ module _ (rows : List ℕ) (nodes : ℕ) (counts : List ℕ) (R : Expr) (of : Of
     }
 
 -- ---- the lists
-pub part-of : (room index : List ℕ) (upto s c : ℕ) (l : List ℕ) → upto ≤ length room → c ≡ s + 1 → Listed room index upto s l → Part room (getD index s 0) (getD index c 0) l
+part-of : (room index : List ℕ) (upto s c : ℕ) (l : List ℕ) → upto ≤ length room → c ≡ s + 1 → Listed room index upto s l → Part room (getD index s 0) (getD index c 0) l
 part-of room index upto s c l h e t =
     let a : getD index c 0 ≡ length l = ap (λ x. getD index x 0) e ∙ t .all in
     let b : getD index s 0 + getD index c 0 ≤ length room = omega (arith, t .inside) in
@@ -82,22 +83,30 @@ part-of room index upto s c l h e t =
           (λ j z. getD-take (getD index c 0) (drop (getD index s 0) room) j 0 (omega (arith, w)) ∙ getD-drop (getD index s 0) room j 0 ∙ t .there j (omega (arith, w, a)));
     }
 
-pub did-spread : (R : Expr) (s u : State) → Did R 0 (actions R) 11 s u → (i : ℕ) → i < actions R → Places (u .room) (u .index) R i
-did-spread R s u d i h =
-    let low : 0 ≤ i = omega arith in
-    let high : i < 0 + actions R = omega arith in
+all-places : (R : Expr) (room index : List ℕ) → All R room index → (i : ℕ) → i < actions R → Places room index R i
+all-places R room index a i h =
     let z : 4 * i + 0 ≡ 4 * i = omega arith in
+    let d = a .done in
     record {
-      inputs = subst (λ x. Part (u .room) (getD (u .index) x 0) (getD (u .index) (4 * i + 1) 0) (arcs R Inputs i)) z
-          (part-of (u .room) (u .index) (u .at) (4 * i + 0) (4 * i + 1) (arcs R Inputs i) (d .inside) (omega arith) (d .lists i low high Inputs));
-      outputs = part-of (u .room) (u .index) (u .at) (4 * i + 2) (4 * i + 3) (arcs R Outputs i) (d .inside) (omega arith) (d .lists i low high Outputs);
+      inputs = subst (λ x. Part room (getD index x 0) (getD index (4 * i + 1) 0) (arcs R Inputs i)) z
+          (part-of room index (a .at) (4 * i + 0) (4 * i + 1) (arcs R Inputs i) (d .inside) (omega arith) (d .lists i h Inputs));
+      outputs = part-of room index (a .at) (4 * i + 2) (4 * i + 3) (arcs R Outputs i) (d .inside) (omega arith) (d .lists i h Outputs);
     }
 
-pub all-spread : (rows : List ℕ) (nodes : ℕ) (counts path : List ℕ) {one other : List ℕ} {m k : Move} (c : Counts) (last : ℕ) (room index : List ℕ) (u : State) → length path ≡ 656
+-- The walk begins on the root, with nothing that waits.
+none-waits : (rows counts : List ℕ) (nodes : ℕ) (R : Expr) (path stack : List ℕ) (k free : ℕ) → Pending rows counts nodes R path stack 0 k (0 + actions R) free
+unfolding Pending
+none-waits rows counts nodes R path stack k free = omega arith
+
+pub all-spread : (rows : List ℕ) (nodes : ℕ) (counts path stack : List ℕ) {one other : List ℕ} {m k : Move} (c : Counts) (last : ℕ) (room index room′ index′ : List ℕ) → length path ≡ 656
     → c ≡ counts-at counts 0 → last ≡ base Exit c → m ≡ shift Entry 0 → k ≡ shift Exit 0 → (length path ≡ 656 → 0 < 1 → Lowers path one 1 1 (λ ps. stretched 1 0 (moved m ps)))
-    → (length one ≡ 656 → 0 < 6 → Lowers one other 6 6 (λ ps. stretched 1 last (moved k ps))) → Walked rows counts (root c) (state other room index 0) u → 0 < u .at
-    → Spreads rows nodes counts (u .room) (u .index)
-all-spread rows nodes counts path {other = other} c last room index u long e f me ke first second w some R of i h =
+    → (length one ≡ 656 → 0 < 6 → Lowers one other 6 6 (λ ps. stretched 1 last (moved k ps))) → ((R : Expr) → Reached rows counts nodes R other stack room index (root c) → All R room′ index′)
+    → Spreads rows nodes counts room′ index′
+all-spread rows nodes counts path stack {other = other} c last room index room′ index′ long e f me ke first second walked R of i h =
     let a = first long (omega arith) in
     let b = second (a .long ∙ long) (omega arith) in
-    did-spread R (state other room index 0) u (w nodes R 0 R (root-here rows nodes counts R of) (root-leads rows nodes counts R of long e f me ke a b) some) i h
+    all-places R room′ index′ (walked R (record {
+      n = 0;
+      on = record { X = R; here = root-here rows nodes counts R of; leads = root-leads rows nodes counts R of long e f me ke a b; pending = none-waits rows counts nodes R other stack (0 + node-count R) 11 };
+      done = record { inside = omega arith; lists = λ j l. absurd (omega arith) };
+    })) i h

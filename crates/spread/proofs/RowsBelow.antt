@@ -3,13 +3,13 @@
 use Prim.Native.Nat.{ℕ, _+_, _*_, _≤_, _<_}
 use native.Mathlib.Omega.{arith}
 use native.Mathlib.Nat.{one-mul, zero-mul}
-use mathlib.Core.Path.{_≡_, refl, sym, _∙_, ap, ap₂, subst}
+use mathlib.Core.Path.{_≡_, refl, sym, _∙_, ap, subst}
 use mathlib.Core.List.{List}
 use lib.ListN.{length, getD}
-use Rattle.arcs.specs.Positions.{stretched, repeated}
+use Rattle.arcs.specs.Positions.{stretched}
 use Rattle.arcs.specs.Moves.{moved}
 use Rattle.arcs.specs.declared.moves.Move.{Move}
-use Rattle.spread.specs.Path.{laid, risen, final, row-put, Linked, Lowers, Lowered}
+use Rattle.spread.specs.Path.{laid, risen, final, row-put, Lowers, Lowered}
 use Rattle.spread.proofs.Images.{final-none, final-at, lowers-row, lowers-as, lowers-same}
 use Rattle.spread.proofs.Shifts.{shifted-move, inner-once, outer-once, laid-none, laid-as}
 

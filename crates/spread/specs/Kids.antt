@@ -1,7 +1,7 @@
 -- Where a node's lists lead, and where those of its operands do.
-use Prim.Native.Nat.{ℕ, _+_, _*_, _≤_, _<_}
+use Prim.Native.Nat.{ℕ, _+_, _≤_, _<_}
 use mathlib.Core.Path.{_≡_}
-use mathlib.Core.Bool.{true, cond}
+use mathlib.Core.Bool.{cond}
 use mathlib.Core.List.{List}
 use lib.ListN.{length, getD}
 use lib.Dec.{eqb}
@@ -21,6 +21,13 @@ use Rattle.spread.specs.declared.kids.Three.{Three}
 
 abbrev pub lists-of : ℕ → ℕ → ℕ → Lists
 lists-of entry exit base = record { entry = entry; exit = exit; base = base }
+
+abbrev pub spot-of : Lists → ℕ → ℕ → ℕ → ℕ → Spot
+spot-of l node free at top = record { node = node; entry = l .entry; exit = l .exit; base = l .base; free = free; at = at; top = top }
+
+-- There is no node of this number.
+abbrev pub stop-at : Spot → ℕ → Spot
+stop-at s nodes = record { node = nodes; entry = s .entry; exit = s .exit; base = s .base; free = s .free; at = s .at; top = s .top }
 
 -- What becomes of an operand's positions after its move: in the node's own list they go on with its row; internal ones are final when the number of the first is added.
 abbrev pub carried-on : Kind → List ℕ → ℕ → ℕ → List ℕ → List ℕ

@@ -17,7 +17,6 @@ use Rattle.arcs.specs.declared.moves.Kind.{Kind}
 use Rattle.arcs.specs.declared.moves.Kind.the-variants.{Internal}
 use Rattle.arcs.specs.declared.moves.Operand.{Operand}
 use Rattle.spread.specs.declared.kids.Spot.{Spot}
-use Rattle.spread.specs.declared.kids.Lists.{Lists}
 use Rattle.spread.specs.Path.{final}
 use Rattle.spread.specs.Room.{Made}
 use Rattle.spread.specs.Kids.{Led}
@@ -67,36 +66,12 @@ pub record Listed (room index : List ℕ) (upto slot : ℕ) (l : List ℕ) : Typ
 abbrev pub pair-put : List ℕ → ℕ → ℕ → ℕ → List ℕ
 pair-put index slot start count = set (set index slot start) (slot + 1) count
 
--- The lists that a walk writes into, and how far the room is used.
-pub record State : Type 0 where
-  pub path : List ℕ
-  pub room : List ℕ
-  pub index : List ℕ
-  pub at : ℕ
-
-abbrev pub state : List ℕ → List ℕ → List ℕ → ℕ → State
-state path room index at = record { path = path; room = room; index = index; at = at }
-
--- From one state to another the lists of so many actions from n on are made; what was there before is kept.
-pub record Did (R : Expr) (n count free : ℕ) (before after : State) : Type 0 where
-  pub path-kept : (j : ℕ) → j < free → getD (after .path) j 0 ≡ getD (before .path) j 0
-  pub room-kept : (j : ℕ) → j < before .at → getD (after .room) j 0 ≡ getD (before .room) j 0
-  pub index-kept : (j : ℕ) → j < 4 * n → getD (after .index) j 0 ≡ getD (before .index) j 0
-  pub path-long : length (after .path) ≡ length (before .path)
-  pub room-long : length (after .room) ≡ length (before .room)
-  pub index-long : length (after .index) ≡ length (before .index)
-  pub more : before .at ≤ after .at
-  pub inside : after .at ≤ length (after .room)
-  pub lists : (i : ℕ) → n ≤ i → i < n + count → (side : Side) → Listed (after .room) (after .index) (after .at) (slot side i) (arcs R side i)
-
--- What a walk from a node leaves, whatever expression the node is.
-abbrev pub Walked : List ℕ → List ℕ → Spot → State → State → Type 0
-Walked rows counts s before after = (nodes : ℕ) (R : Expr) (n : ℕ) (E : Expr) → Here rows counts nodes (s .node) n E → Leads rows counts nodes R n E (before .path) s
-    → 0 < after .at → Did R n (actions E) (s .free) before after
-
--- An operand of a node, with its lists.
-abbrev pub under : Spot → Lists → ℕ → ℕ → Spot
-under s l node at = record { node = node; entry = l .entry; exit = l .exit; base = l .base; free = s .free + 20; at = at }
+-- The output places of action i, made behind its input places, and where both are.
+pub record PutOutputs (s : Spot) (i inputs : ℕ) (path : List ℕ) (r : ℕ) (room room′ index index′ : List ℕ) : Type 0 where
+  pub outputs : ℕ
+  pub made : Made room room′ (s .at + inputs) outputs (final path (s .exit) (0 ∷ []))
+  pub end : r ≡ s .at + inputs + outputs
+  pub pairs : index′ ≡ pair-put (pair-put index (4 * i + 0) (s .at) inputs) (4 * i + 2) (s .at + inputs) outputs
 
 -- The two lists of the action that a node is, made from a place on.
 pub record Put (rows : List ℕ) (s : Spot) (path : List ℕ) (r : ℕ) (room room′ index index′ : List ℕ) : Type 0 where
@@ -124,3 +99,4 @@ pub record Inner (rows : List ℕ) (nodes : ℕ) (s : Spot) (tag second : ℕ) :
   pub next : s .node + 1 < nodes
   pub inside : second < nodes
   pub room : s .free ≤ 636
+  pub deep : s .top ≤ 66

@@ -16,8 +16,8 @@ ghost use Prim.Native.Nat.{_+_, _≤_};
 ghost use Rattle.arcs.specs.Moves.{sequence-move, choice-move, parallel-move, loop-move, Small};
 ghost use Rattle.spread.specs.Kids.{Twos, Threes, Led, Inside, Stands-in, lists-of, pair-move};
 
-// A node on the way down: the rows of its entries and of its exits, the final number of its first internal place, where the free rows begin,
-// and how far the room is used.
+// A node on the way: the rows of its entries and of its exits, the final number of its first internal place, where the free rows begin, how
+// far the room is used, and how many operands wait on the stack.
 pub struct Spot {
     pub node: usize,
     pub entry: usize,
@@ -25,8 +25,10 @@ pub struct Spot {
     pub base: usize,
     pub free: usize,
     pub at: usize,
+    pub top: usize,
 }
 
+// The rows of an operand's entries and of its exits, and the final number of its first internal place.
 pub struct Lists {
     pub entry: usize,
     pub exit: usize,
@@ -40,6 +42,7 @@ pub struct Two {
     pub second: Lists,
 }
 
+// The same of a loop's operands.
 pub struct Three {
     pub fits: bool,
     pub first: Lists,
@@ -47,7 +50,7 @@ pub struct Three {
     pub third: Lists,
 }
 
-fn lists_at(entry: usize, exit: usize, base: usize) -> Lists
+pub fn lists_at(entry: usize, exit: usize, base: usize) -> Lists
     ensures { λ r. ⌜ r ≡ lists-of entry exit base ⌝ }
 {
     Lists {

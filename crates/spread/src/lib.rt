@@ -26,23 +26,31 @@ fn numbers_in(s: &[u16]) -> usize
     s.len()
 }
 
-// Room for 32 nodes inside each other, and the root.
+// Rows for 32 nodes inside each other, and the root.
 fn no_path() -> [u16; 656]
     ensures { λ r. ⌜ r ≡ replicate 656 0 ⌝ }
 {
     [0u16; 656]
 }
 
-// The walk from the root, with a path to write into: "Final numbers: entries from 0, then internals, then exits".
+// Two operands wait for each of them at most.
+fn no_stack() -> [u16; 272]
+    ensures { λ r. ⌜ r ≡ replicate 272 0 ⌝ }
+{
+    [0u16; 272]
+}
+
+// The walk from the root, with a path and a stack to write into: "Final numbers: entries from 0, then internals, then exits".
 fn spread_over(
     rows: &[u16],
     nodes: usize,
     counts: &[u16],
     path: &mut [u16; 656],
+    stack: &mut [u16; 272],
     room: &mut [u16],
     index: &mut [u16],
 ) -> bool
-    requires { ⌜ Tables (now rows) (now counts) nodes × (0 < nodes) × (length (now room) ≤ 65535) × (length (now path) ≡ 656) ⌝ }
+    requires { ⌜ Tables (now rows) (now counts) nodes × (0 < nodes) × (length (now room) ≤ 65535) × (length (now path) ≡ 656) × (length (now stack) ≡ 272) ⌝ }
     ensures long { λ _. ⌜ length (now (room .exit)) ≡ length (now (room .entry)) ⌝ }
     ensures spreads { λ r. ⌜ (r ≡ true → Spreads (now (rows .entry)) nodes (now (counts .entry)) (now (room .exit)) (now (index .exit))) ⌝ }
 {
@@ -60,12 +68,9 @@ fn spread_over(
                 base: whole.entries,
                 free: 11,
                 at: 0,
+                top: 0,
             };
-            let end = walk(rows, counts, nodes, root, path, room, index);
-            if end == 0 {
-                return false;
-            }
-            return true;
+            return walk(rows, counts, nodes, root, path, stack, room, index);
         }
         return false;
     }
@@ -101,5 +106,7 @@ pub fn spread(
     }
     let mut path = no_path();
     numbers_in(&path);
-    spread_over(rows, nodes, counts, &mut path, room, index)
+    let mut stack = no_stack();
+    numbers_in(&stack);
+    spread_over(rows, nodes, counts, &mut path, &mut stack, room, index)
 }

@@ -1,5 +1,6 @@
 // The path down to a node: rows of five numbers, each of which says how positions in a list become positions in a list above it, or final
 // numbers. Row r has at r the row that it goes on with, 0 if its positions are final; behind it the numbers of a move: left, right, step, off.
+// The root has two rows, and a node that is no action four for its operands, so that 656 numbers do for 32 nodes inside each other.
 use arcs::moves::Move;
 use plan::exclusive::wide;
 ghost use mathlib.Core.Path.{_≡_};
@@ -10,6 +11,7 @@ ghost use Rattle.arcs.specs.Positions.{stretched};
 ghost use Rattle.arcs.specs.Moves.{moved};
 ghost use Rattle.spread.specs.Path.{laid, row-put, Short, Lowers, Lowered};
 
+// Five numbers of 16 bits are stored.
 fn put_row(
     path: &mut [u16; 656],
     row: usize,

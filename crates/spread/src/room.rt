@@ -1,7 +1,7 @@
 // Lists of positions are changed in place, from `at` on in a room of any length: where a list does not fit, the answer is 0.
 use plan::exclusive::wide;
 ghost use mathlib.Core.Path.{_≡_};
-ghost use mathlib.Core.Bool.{true};
+ghost use mathlib.Core.Bool.{true, false};
 ghost use mathlib.Core.List.{[], _∷_};
 ghost use Prim.Native.Nat.{_+_, _≤_, _<_};
 ghost use lib.ListN.{length};
@@ -146,11 +146,14 @@ fn climb(path: &[u16; 656], row: usize, room: &mut [u16], at: usize, count: usiz
 }
 
 // The final numbers of an action's own place, which is the only one of its list: a run, repeated, and then up.
-fn list_many(path: &[u16; 656], row: usize, room: &mut [u16], at: usize) -> usize
-    requires { ⌜ (length (now room) ≤ 65535) × (0 < row) × (row ≤ 651) × (at < length (now room)) ⌝ }
+pub fn list_places(path: &[u16; 656], row: usize, room: &mut [u16], at: usize) -> usize
+    requires { ⌜ (length (now room) ≤ 65535) × (0 < row) × (row ≤ 651) ⌝ }
     ensures long { λ _. ⌜ length (now (room .exit)) ≡ length (now (room .entry)) ⌝ }
     ensures made { λ r. ⌜ (0 < r → Made (now (room .entry)) (now (room .exit)) at r (final (now (path .entry)) row (0 ∷ []))) ⌝ }
 {
+    if room.len() <= at {
+        return 0;
+    }
     let right = wide(path[row + 2]);
     let off = wide(path[row + 4]);
     if room.len() < at + right {
@@ -189,18 +192,18 @@ fn is_one(up: u16, left: u16, right: u16) -> bool
     false
 }
 
-// The same, where nearly always it is one number.
-pub fn list_places(path: &[u16; 656], row: usize, room: &mut [u16], at: usize) -> usize
-    requires { ⌜ (length (now room) ≤ 65535) × (0 < row) × (row ≤ 651) ⌝ }
-    ensures long { λ _. ⌜ length (now (room .exit)) ≡ length (now (room .entry)) ⌝ }
-    ensures made { λ r. ⌜ (0 < r → Made (now (room .entry)) (now (room .exit)) at r (final (now (path .entry)) row (0 ∷ []))) ⌝ }
+// The same where they are one number, as they nearly always are; false: they are not, and nothing is written.
+pub fn list_one(path: &[u16; 656], row: usize, room: &mut [u16], at: usize) -> bool
+    requires { ⌜ (0 < row) × (row ≤ 651) ⌝ }
+    ensures made { λ r. ⌜ (r ≡ true → Made (now (room .entry)) (now (room .exit)) at 1 (final (now (path .entry)) row (0 ∷ []))) ⌝ }
+    ensures kept { λ r. ⌜ (r ≡ false → now (room .exit) ≡ now (room .entry)) ⌝ }
 {
     if room.len() <= at {
-        return 0;
+        return false;
     }
     if is_one(path[row], path[row + 1], path[row + 2]) {
         room[at] = path[row + 4];
-        return 1;
+        return true;
     }
-    list_many(path, row, room, at)
+    false
 }

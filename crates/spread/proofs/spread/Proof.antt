@@ -1,4 +1,4 @@
--- `spread` meets its contract: the walk, with a path of its own, whose length is known from its loan as a slice.
+-- `spread` meets its contract: the walk, with a path and a stack of its own, whose lengths are known from their loans as slices.
 -- Assumes nothing.
 use Rattle.spread.proofs.Climbs.{no-claim}
 use borrow.Author.Needs.{needs}
@@ -31,6 +31,9 @@ spread-spec =
     returns-4
     (λ c. search needs)
     returns-5
+    (λ c κs. search needs)
+    (λ c. search needs)
+    (λ c κs. search needs)
     (λ c κs. search needs)
     (λ c. search needs)
     (λ c κs. search needs)

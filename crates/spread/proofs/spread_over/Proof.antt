@@ -3,7 +3,6 @@
 use native.Mathlib.Omega.{arith}
 use mathlib.Core.Path.{refl, ap}
 use Rattle.arcs.specs.declared.moves.Move.{Move}
-use Rattle.spread.specs.Walk.{state}
 use Rattle.spread.proofs.Climbs.{no-claim}
 use Rattle.spread.proofs.Roots.{all-spread}
 use borrow.Author.Needs.{needs}
@@ -21,24 +20,21 @@ end-row-requires-2 c κs = (omega arith, omega (arith, ap (λ (x : Move). x .off
 
 walk-requires : tie.Need-walk-requires
 walk-requires c κs =
-    let p = c .before .before .before .before .before .before .before .before .before .before .before .before .before .before .before .before .before .before .pre in
-    (p .0, p .1, record { entry-some = omega arith; exit-some = omega arith; entry-low = omega arith; exit-low = omega arith; small = c .before .before .before .before .before .before .before .before .before .before .before .before .before .counts-at .ensures .1 .entries; room = omega arith }, p .2)
+    let p = c .before .before .before .before .before .before .before .before .before .before .before .before .before .before .before .before .before .before .before .pre in
+    (p .0, record { spot = record { entry-some = omega arith; exit-some = omega arith; entry-low = omega arith; exit-low = omega arith; small = c .before .before .before .before .before .before .before .before .before .before .before .before .before .before .counts-at .ensures .1 .entries; room = omega arith }; few = omega arith; long = p .4; rest = λ t h. absurd (omega arith) }, p .2)
 
 returns-2 : tie.Need-returns-2
-returns-2 c = (c .before .before .before .before .before .walk .ensures .0, λ e. no-claim e)
-
-returns-3 : tie.Need-returns-3
-returns-3 c =
+returns-2 c =
     let s = c .before .before .before .before .before .before .before .before .before .before .before .before .before .before .before .before .before .before .before .before .before .before .before .before in
     let a = s .args in
-    let w = c .before .before .before .before .before .walk .ensures in
-    (w .0, λ e. all-spread (a .rows .now) (a .nodes) (a .counts .now) (a .path .now) (c .before .before .before .before .before .before .before .before .before .before .before .before .before .before .before .before .before .before .before .counts-at .result) _ (a .room .now) (a .index .now) (state _ _ _ _) (s .pre .3) (c .before .before .before .before .before .before .before .before .before .before .before .before .before .before .before .before .before .before .before .counts-at .ensures .0) (c .before .before .before .before .before .before .before .before .before .before .before .before .before .before .before .before .before .before .base-of .ensures) (c .before .before .before .before .before .before .before .before .before .before .before .before .before .before .before .shifted .ensures) (c .before .before .before .before .before .before .before .before .before .before .before .shifted2 .ensures) (c .before .before .before .before .before .before .before .before .before .before .before .before .before .before .end-row .ensures .1 (c .before .before .before .before .before .before .before .before .before .before .before .before .before .if2 .taken)) (c .before .before .before .before .before .before .before .before .before .before .end-row2 .ensures .1 (c .before .before .before .before .before .before .before .before .before .if3 .taken)) (w .1) (omega (arith, c .if4 .left)))
+    let w = c .before .before .before .before .walk .ensures in
+    (w .0, λ e. all-spread (a .rows .now) (a .nodes) (a .counts .now) (a .path .now) (a .stack .now) (c .before .before .before .before .before .before .before .before .before .before .before .before .before .before .before .before .before .before .before .counts-at .result) _ (a .room .now) (a .index .now) _ _ (s .pre .3) (c .before .before .before .before .before .before .before .before .before .before .before .before .before .before .before .before .before .before .before .counts-at .ensures .0) (c .before .before .before .before .before .before .before .before .before .before .before .before .before .before .before .before .before .before .base-of .ensures) (c .before .before .before .before .before .before .before .before .before .before .before .before .before .before .before .shifted .ensures) (c .before .before .before .before .before .before .before .before .before .before .before .shifted2 .ensures) (c .before .before .before .before .before .before .before .before .before .before .before .before .before .before .end-row .ensures .1 (c .before .before .before .before .before .before .before .before .before .before .before .before .before .if2 .taken)) (c .before .before .before .before .before .before .before .before .before .before .end-row2 .ensures .1 (c .before .before .before .before .before .before .before .before .before .if3 .taken)) (w .1 e))
+
+returns-3 : tie.Need-returns-3
+returns-3 c = (refl, λ e. no-claim e)
 
 returns-4 : tie.Need-returns-4
 returns-4 c = (refl, λ e. no-claim e)
-
-returns-5 : tie.Need-returns-5
-returns-5 c = (refl, λ e. no-claim e)
 
 pub spread-over-spec : {M : Type 1} → statement M
 spread-over-spec =
@@ -55,8 +51,5 @@ spread-over-spec =
     (λ c. search needs)
     (λ c. search needs)
     returns-2
-    (λ c. search needs)
-    (λ c. search needs)
     returns-3
-    returns-4
-    returns-5)
+    returns-4)

@@ -1,6 +1,6 @@
 -- `two_of` meets its contract: the tag tells the operator.
 -- Assumes nothing.
-use mathlib.Core.Path.{refl, sym}
+use mathlib.Core.Path.{refl}
 use borrow.Author.Tests.{ne-eqb}
 use Rattle.arcs.specs.Moves.{sequence-move, choice-move, parallel-move}
 use Rattle.spread.specs.Kids.{pair-move}

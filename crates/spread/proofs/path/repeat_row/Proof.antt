@@ -1,7 +1,7 @@
 -- `repeat_row` meets its contract: where the node's row repeats nothing the two moves are one; where it does it is gone on with.
 -- Assumes nothing.
 use native.Mathlib.Omega.{arith}
-use mathlib.Core.Path.{refl, sym, _∙_}
+use mathlib.Core.Path.{refl}
 use Rattle.spread.proofs.Rooms.{product-fits}
 use Rattle.spread.proofs.RowsBelow.{repeat-lowered, repeat-same, on-lowered}
 use borrow.Author.Needs.{needs}

@@ -1,7 +1,7 @@
 -- `climb` meets its contract, the row falling: one row up, and then the rows that it goes on with.
 -- Assumes nothing.
 use native.Mathlib.Omega.{arith}
-use mathlib.Core.Path.{refl, _∙_}
+use mathlib.Core.Path.{refl}
 use Rattle.spread.specs.Path.{final}
 use Rattle.spread.proofs.Rooms.{none-made}
 use Rattle.spread.proofs.Climbs.{fits-then, fits-none, climb-none, climb-more}

@@ -1,6 +1,6 @@
 -- `stretch` meets its contract: the positions from i on are stretched, and those below are still to be read.
 -- Assumes nothing.
-use Prim.Native.Nat.{_*_, _-_, _≤_, _<_}
+use Prim.Native.Nat.{_-_, _≤_, _<_}
 use native.Mathlib.Omega.{arith}
 use mathlib.Core.Path.{refl}
 use borrow.Author.Needs.{needs}

@@ -1,6 +1,6 @@
 -- `counts_of` meets its contract: three numbers are read.
 -- Assumes nothing.
-use Rattle.spread.proofs.Acts.{counts-as}
+use Rattle.spread.proofs.Listings.{counts-as}
 use borrow.Author.Needs.{needs}
 use Rattle.spread.proofs.walk.counts_of.Statement.{statement}
 use Rattle.spread.proofs.walk.counts_of.Tie as tie
