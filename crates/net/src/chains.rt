@@ -36,7 +36,7 @@ fn goes_before(rows: &[u16], transitions: usize, t: usize, behind: usize) -> boo
 }
 
 // From the last transition down to the first, each goes to the front of its chain: so the numbers on a chain rise. Where the second actions
-// rise too, as on every chain of a compiled net, no two transitions have the same pair.
+// rise too, no two transitions have the same pair, and nobody has to look for one.
 pub fn link(rows: &[u16], transitions: usize, head: &mut [u16], next: &mut [u16]) -> bool
     requires { ⌜ (transitions ≤ 1024) × (6 * transitions ≤ length (now rows)) × (transitions ≤ length (now next)) × (256 ≤ length (now head)) ⌝ }
     requires { ⌜ now head ≡ replicate 256 65535 ⌝ }
