@@ -1,15 +1,15 @@
 -- What the code answers for each tag is what `exclusive-by` and `fault-by` say.
 -- True by the tests that led there: each settles one test of the definition.
-use Prim.Native.Nat.{ℕ, _+_, _*_}
+use Prim.Native.Nat.{ℕ, _+_, _*_, _≤_, _<_}
 use mathlib.Core.Path.{_≡_, refl, sym, _∙_, ap}
 use mathlib.Core.List.{List, _∷_}
 use lib.ListN.{getD}
-use borrow.Author.Tests.{ne-eqb}
+use borrow.Author.Tests.{ne-eqb, le-leb, lt-leb}
 use Rattle.field.specs.Refusals.{body-not-exclusive}
 use Rattle.field.specs.Answer.{good, refused}
 use Rattle.plan.specs.Loops.{no-fault}
 use Rattle.plan.specs.Table.{tag-at, after-at}
-use Rattle.plan.specs.Judged.{exclusive-by, fault-by}
+use Rattle.plan.specs.Judged.{offset-says, exclusive-by, fault-by}
 use Rattle.plan.proofs.NodeTable.{is, is-not}
 
 module _ (rows table : List ℕ) (k : ℕ) {tag : ℕ} (read : tag ≡ tag-at rows k) where
@@ -47,3 +47,10 @@ module _ (rows table : List ℕ) (k : ℕ) {tag : ℕ} (read : tag ≡ tag-at ro
   pub no-loop : (tag ≡ 5 → ⊥) → good tt ≡ no-fault (fault-by rows table k)
   unfolding fault-by
   no-loop a = rw (ne-eqb (tag-at rows k) 5 (is-not read a)) refl
+
+-- An offset has 16 bits, and a number above them is none.
+pub an-offset : (n : ℕ) → n ≤ 65535 → offset-says n ≡ refused body-not-exclusive n
+an-offset n h = rw (le-leb n 65535 h) refl
+
+pub no-offset : (n : ℕ) → 65535 < n → offset-says n ≡ good tt
+no-offset n h = rw (lt-leb n 65535 h) refl

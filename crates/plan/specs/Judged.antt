@@ -4,7 +4,7 @@ use mathlib.Core.Path.{_≡_}
 use mathlib.Core.List.{List, [], _∷_, _++_}
 use mathlib.Core.Bool.{Bool, true, false, cond}
 use lib.ListN.{getD}
-use lib.Dec.{eqb}
+use lib.Dec.{eqb, leb}
 use Rattle.field.specs.Refusals.{body-not-exclusive}
 use Rattle.field.specs.Answer.{Answer, good, refused, _>>_}
 use Rattle.algebra.specs.Expr.{Expr}
@@ -18,6 +18,10 @@ use Rattle.plan.specs.declared.exclusive.Loops.the-variants.{Fine, Fault
 abbrev pub loops-say : Loops → Answer (Unit {0})
 loops-say Fine = good tt
 loops-say (Faulty at) = refused body-not-exclusive at
+
+-- The same of an offset, or a number above every offset for none.
+abbrev pub offset-says : ℕ → Answer (Unit {0})
+offset-says at = cond (leb at 65535) (refused body-not-exclusive at) (good tt)
 
 -- The first refusal of two answers.
 abbrev pub first-refusal : Answer (Unit {0}) → Answer (Unit {0}) → Answer (Unit {0})

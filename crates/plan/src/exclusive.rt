@@ -14,10 +14,13 @@ ghost use Rattle.field.specs.Answer.{good};
 ghost use Rattle.algebra.specs.Expr.{Expr};
 ghost use Rattle.plan.specs.Loops.{no-fault, check-loops};
 ghost use Rattle.plan.specs.Table.{Table};
-ghost use Rattle.plan.specs.Judged.{loops-say, first-refusal, exclusive-by, fault-by, Judged};
+ghost use Rattle.plan.specs.Judged.{loops-say, offset-says, first-refusal, exclusive-by, fault-by, Judged};
 
 // So many nodes are few.
 const FEW_NODES: usize = 64;
+
+// While nodes are judged a fault is its offset alone, or this number where there is none.
+const NO_OFFSET: usize = 65536;
 
 // Every loop's body is exclusive, or the offset of the first loop whose body is not.
 pub enum Loops {
@@ -68,28 +71,34 @@ fn is_exclusive(rows: &[u16], k: usize, exclusive: &[u16]) -> u16
 }
 
 // What node k tells of itself: its offset, where it is a loop whose body is not exclusive.
-fn fault_of(rows: &[u16], k: usize, exclusive: &[u16]) -> Loops
+fn fault_of(rows: &[u16], k: usize, exclusive: &[u16]) -> usize
     requires { ⌜ k ≤ 65535 ⌝ }
-    ensures { λ r. ⌜ loops-say r ≡ no-fault (fault-by (now (rows .entry)) (now (exclusive .entry)) k) ⌝ }
+    ensures { λ r. ⌜ offset-says r ≡ no-fault (fault-by (now (rows .entry)) (now (exclusive .entry)) k) ⌝ }
 {
     let tag = row_number(rows, k, TAG);
     if tag == LOOP {
         if number_at(exclusive, row_number(rows, k + 1, AFTER)) == 0 {
-            return Loops::Faulty(row_number(rows, k, AT));
+            return row_number(rows, k, AT);
         }
-        return Loops::Fine;
+        return NO_OFFSET;
     }
-    Loops::Fine
+    NO_OFFSET
 }
 
-// The first fault of two answers.
-fn first_of(a: Loops, b: Loops) -> Loops
-    ensures { λ r. ⌜ loops-say r ≡ first-refusal (loops-say a) (loops-say b) ⌝ }
+// The first fault of two.
+fn first_of(a: usize, b: usize) -> usize
+    ensures { λ r. ⌜ offset-says r ≡ first-refusal (offset-says a) (offset-says b) ⌝ }
 {
-    match a {
-        Loops::Fine => b,
-        Loops::Faulty(at) => Loops::Faulty(at),
+    if a < NO_OFFSET { a } else { b }
+}
+
+fn loops_at(offset: usize) -> Loops
+    ensures { λ r. ⌜ loops-say r ≡ offset-says offset ⌝ }
+{
+    if offset < NO_OFFSET {
+        return Loops::Faulty(offset);
     }
+    Loops::Fine
 }
 
 // Judges so many nodes, the last one first.
@@ -97,7 +106,7 @@ fn judge(rows: &[u16], nodes: usize, exclusive: &mut [u16]) -> Loops
     requires { ⌜ (nodes ≤ 1366) × (nodes ≤ length (now exclusive)) ⌝ }
     ensures { λ r. ⌜ Judged (now (rows .entry)) nodes (now (exclusive .entry)) (now (exclusive .exit)) (good tt) (loops-say r) ⌝ }
 {
-    let mut found = Loops::Fine;
+    let mut found = NO_OFFSET;
     let mut k = nodes;
     while 0 < k {
         k -= 1;
@@ -105,7 +114,7 @@ fn judge(rows: &[u16], nodes: usize, exclusive: &mut [u16]) -> Loops
         let own = fault_of(rows, k, exclusive);
         found = first_of(own, found);
     }
-    found
+    loops_at(found)
 }
 
 // The check for loops of a plan of few nodes, with room that costs little to make.
