@@ -79,7 +79,7 @@ fn spread_over(
 
 // The input and output places of every action, rising, one list behind the other in the room. The index has four numbers for an action:
 // where its input places start and how many they are, where its output places start and how many they are. False: they do not fit the room
-// or the index.
+// or the index, or the tables are shorter than so many nodes ask.
 pub fn spread(
     rows: &[u16],
     nodes: usize,

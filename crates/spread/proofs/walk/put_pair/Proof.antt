@@ -7,10 +7,7 @@ use Rattle.spread.proofs.walk.put_pair.Statement.{statement}
 use Rattle.spread.proofs.walk.put_pair.Tie as tie
 
 slice-write-index-2 : tie.Need-slice-write-index-2
-slice-write-index-2 c =
-    let s = c in
-    let a = s .args in
-    omega (arith, s .pre .0, length-set (a .index .now) (a .slot) (a .start))
+slice-write-index-2 c = simp length-set (omega (arith, c .pre .0))
 
 pub put-pair-spec : {M : Type 1} → statement M
 put-pair-spec =
