@@ -117,13 +117,17 @@ one-more rows k before after room j =
     }
 
 -- The same as the code has it, which counts the nodes that are left.
-pub turn : (rows before : List ℕ) {between after : List ℕ} {k : ℕ} {c : Counts} → (k ≡ 0 → ⊥) → 3 * k ≤ length before
+turn : (rows before : List ℕ) {between after : List ℕ} {k : ℕ} {c : Counts} → (k ≡ 0 → ⊥) → 3 * k ≤ length before
     → c ≡ counts-by rows before (k - 1) → between ≡ stored before (k - 1) c → Counted rows (k - 1) between after → Counted rows k before after
 turn rows before {between} {after} {k} {c} some room e s j =
     let p : k - 1 + 1 ≡ k = omega arith in
     subst (λ m. Counted rows m before after) p
     (one-more rows (k - 1) before after (omega arith)
     (subst (λ t. Counted rows (k - 1) t after) (s ∙ ap (stored before (k - 1)) e) j))
+
+pub turn-to : (rows before : List ℕ) {between after : List ℕ} {low k : ℕ} {c : Counts} → (k ≡ 0 → ⊥) → low ≡ k - 1 → 3 * k ≤ length before
+    → c ≡ counts-by rows before (k - 1) → between ≡ stored before (k - 1) c → Counted rows low between after → Counted rows k before after
+turn-to rows before {between} {after} some e room f s j = turn rows before some room f s (subst (λ m. Counted rows m between after) e j)
 
 three : (E : Expr) → length (counts-of E) ≡ 3
 unfolding counts-of

@@ -11,8 +11,8 @@ use plan::tags::SCOPE;
 use plan::tags::SEQUENCE;
 use plan::tags::TAG;
 ghost use mathlib.Core.Path.{_≡_};
-ghost use mathlib.Core.List.{_++_};
-ghost use Prim.Native.Nat.{_+_, _*_, _≤_};
+ghost use mathlib.Core.List.{List, _++_};
+ghost use Prim.Native.Nat.{ℕ, _+_, _*_, _<_, _≤_};
 ghost use lib.ListN.{length, drop};
 ghost use Rattle.field.specs.Limits.{place-limit};
 ghost use Rattle.algebra.specs.Expr.{Expr};
@@ -143,17 +143,20 @@ fn store(counts: &mut [u16], k: usize, c: Counts)
     counts[3 * k + 2] = c.exits as u16;
 }
 
-// Counts so many nodes, the last one first.
-fn count(rows: &[u16], nodes: usize, counts: &mut [u16])
-    requires { ⌜ (nodes ≤ 1366) × (3 * nodes ≤ length (now counts)) ⌝ }
-    ensures { λ _. ⌜ Counted (now (rows .entry)) nodes (now (counts .entry)) (now (counts .exit)) ⌝ }
+// Counts the nodes from `low` to `high`, the upper half before the lower, so that the node number falls and calls stay few inside each other.
+fn count(rows: &[u16], low: usize, high: usize, counts: &mut [u16])
+    requires { ⌜ (low < high) × (high ≤ 1366) × (3 * high ≤ length (now counts)) ⌝ }
+    ensures { λ _. ⌜ ((after : List ℕ) → Counted (now (rows .entry)) low (now (counts .exit)) after → Counted (now (rows .entry)) high (now (counts .entry)) after) ⌝ }
 {
-    let mut k = nodes;
-    while 0 < k {
-        k -= 1;
-        let c = counts_of(rows, k, counts);
-        store(counts, k, c);
+    if low + 1 == high {
+        let node = high - 1;
+        let c = counts_of(rows, node, counts);
+        store(counts, node, c);
+        return;
     }
+    let middle = (low + high) / 2;
+    count(rows, middle, high, counts);
+    count(rows, low, middle, counts);
 }
 
 // The counts of every node of the plan whose node table the rows begin with; what lies behind them is not written.
@@ -161,5 +164,8 @@ pub fn count_places(rows: &[u16], nodes: usize, counts: &mut [u16])
     requires { ⌜ (nodes ≤ 1366) × (3 * nodes ≤ length (now counts)) ⌝ }
     ensures { λ _. ⌜ ((E : Expr) → Table (now (rows .entry)) nodes E → now (counts .exit) ≡ node-counts E ++ drop (3 * nodes) (now (counts .entry))) ⌝ }
 {
-    count(rows, nodes, counts);
+    if nodes == 0 {
+        return;
+    }
+    count(rows, 0, nodes, counts);
 }

@@ -8,9 +8,10 @@ use crate::tags::PARALLEL;
 use crate::tags::SCOPE;
 use crate::tags::TAG;
 ghost use mathlib.Core.Path.{_≡_};
-ghost use Prim.Native.Nat.{_+_, _*_, _≤_};
+ghost use mathlib.Core.List.{List};
+ghost use Prim.Native.Nat.{ℕ, _+_, _*_, _<_, _≤_};
 ghost use lib.ListN.{length, getD};
-ghost use Rattle.field.specs.Answer.{good};
+ghost use Rattle.field.specs.Answer.{Answer};
 ghost use Rattle.algebra.specs.Expr.{Expr};
 ghost use Rattle.plan.specs.Loops.{no-fault, check-loops};
 ghost use Rattle.plan.specs.Table.{Table};
@@ -101,20 +102,32 @@ fn loops_at(offset: usize) -> Loops
     Loops::Fine
 }
 
-// Judges so many nodes, the last one first.
-fn judge(rows: &[u16], nodes: usize, exclusive: &mut [u16]) -> Loops
-    requires { ⌜ (nodes ≤ 1366) × (nodes ≤ length (now exclusive)) ⌝ }
-    ensures { λ r. ⌜ Judged (now (rows .entry)) nodes (now (exclusive .entry)) (now (exclusive .exit)) (good tt) (loops-say r) ⌝ }
+// Judges the nodes from `low` to `high`, the upper half before the lower, so that the node number falls and calls stay few inside each other.
+// Answers the offset of the first faulty loop from `low` on, where `later` is that from `high` on.
+fn judge(rows: &[u16], low: usize, high: usize, exclusive: &mut [u16], later: usize) -> usize
+    requires { ⌜ (low < high) × (high ≤ 1366) × (high ≤ length (now exclusive)) ⌝ }
+    ensures { λ r. ⌜ ((after : List ℕ) (answer : Answer (Unit {0})) → Judged (now (rows .entry)) low (now (exclusive .exit)) after (offset-says r) answer → Judged (now (rows .entry)) high (now (exclusive .entry)) after (offset-says later) answer) ⌝ }
 {
-    let mut found = NO_OFFSET;
-    let mut k = nodes;
-    while 0 < k {
-        k -= 1;
-        exclusive[k] = is_exclusive(rows, k, exclusive);
-        let own = fault_of(rows, k, exclusive);
-        found = first_of(own, found);
+    if low + 1 == high {
+        let node = high - 1;
+        exclusive[node] = is_exclusive(rows, node, exclusive);
+        let own = fault_of(rows, node, exclusive);
+        return first_of(own, later);
     }
-    loops_at(found)
+    let middle = (low + high) / 2;
+    let found = judge(rows, middle, high, exclusive, later);
+    judge(rows, low, middle, exclusive, found)
+}
+
+// The check for loops with room for as many nodes.
+fn check_in(rows: &[u16], nodes: usize, exclusive: &mut [u16]) -> Loops
+    requires { ⌜ (nodes ≤ 1366) × (nodes ≤ length (now exclusive)) ⌝ }
+    ensures { λ r. ⌜ ((E : Expr) → Table (now (rows .entry)) nodes E → loops-say r ≡ check-loops E) ⌝ }
+{
+    if nodes == 0 {
+        return Loops::Fine;
+    }
+    loops_at(judge(rows, 0, nodes, exclusive, NO_OFFSET))
 }
 
 // The check for loops of a plan of few nodes, with room that costs little to make.
@@ -123,7 +136,7 @@ fn check_few(rows: &[u16], nodes: usize) -> Loops
     ensures { λ r. ⌜ ((E : Expr) → Table (now (rows .entry)) nodes E → loops-say r ≡ check-loops E) ⌝ }
 {
     let mut exclusive = [0u16; FEW_NODES];
-    judge(rows, nodes, &mut exclusive)
+    check_in(rows, nodes, &mut exclusive)
 }
 
 // The check for loops of the plan whose node table the rows begin with.
@@ -135,5 +148,5 @@ pub fn check_loops(rows: &[u16], nodes: usize) -> Loops
         return check_few(rows, nodes);
     }
     let mut exclusive = [0u16; 1366];
-    judge(rows, nodes, &mut exclusive)
+    check_in(rows, nodes, &mut exclusive)
 }

@@ -1,25 +1,8 @@
--- `check_loops` meets its contract: once all nodes are judged the answer is that of the check for loops.
+-- `check_loops` meets its contract: it is the check with room made for it.
 -- Assumes nothing.
-use Rattle.plan.proofs.Judges.{all-judged}
 use borrow.Author.Needs.{needs}
 use Rattle.plan.proofs.exclusive.check_loops.Statement.{statement}
 use Rattle.plan.proofs.exclusive.check_loops.Tie as tie
 
-check-few-requires : tie.Need-check-few-requires
-check-few-requires c κs = search needs
-
-returns : tie.Need-returns
-returns c = search needs
-
-slice-aggregate-judge : tie.Need-slice-aggregate-judge
-slice-aggregate-judge c = search needs
-
-judge-requires : tie.Need-judge-requires
-judge-requires c κs = search needs
-
-returns-2 : tie.Need-returns-2
-returns-2 c = all-judged (c .before .judge .ensures)
-
 pub check-loops-spec : {M : Type 1} → statement M
-check-loops-spec =
-    tie.close (tie.spec check-few-requires returns slice-aggregate-judge judge-requires returns-2)
+check-loops-spec = tie.close (tie.spec (λ c κs. search needs) (λ c. search needs) (λ c. search needs) (λ c κs. search needs) (λ c. search needs))
