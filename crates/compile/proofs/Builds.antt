@@ -44,7 +44,7 @@ use Rattle.arcs.proofs.Sizes.{counts-here}
 use Rattle.arcs.proofs.AskedMet.{table-length, counted-in-front}
 use Rattle.compile.specs.Judged.{check-places, check-transitions, check-arcs, judge, judged}
 use Rattle.compile.specs.Ready.{Sizes, ready-sizes, ready, FrontSays, TablesAre}
-use Rattle.compile.specs.Rows.{item-at, listed-at, listed-from, Put, OfAll, Whole, AskedAll, made}
+use Rattle.tables.specs.Rows.{item-at, listed-at, listed-from, Put, OfAll, Whole, AskedAll, made}
 use Rattle.compile.specs.Built.{counted, Told, Begin, MadeOf, BuiltIs, ShortIs}
 use Rattle.compile.specs.declared.building.Built.{Built}
 use Rattle.compile.specs.declared.building.Built.the-variants as built

@@ -2,7 +2,7 @@
 // as long as the caller made it, so that a small plan does not pay for a large net's.
 use crate::front::Judgement;
 use crate::front::front;
-use crate::rooms::put_transitions;
+use tables::rooms::put_transitions;
 use plan::exclusive::number_at;
 use plan::exclusive::wide;
 ghost use mathlib.Core.Path.{_≡_};
@@ -11,7 +11,7 @@ ghost use lib.ListN.{length};
 ghost use Rattle.field.specs.Limits.{plan-limit};
 ghost use Rattle.algebra.specs.Expr.{Expr};
 ghost use Rattle.compile.specs.Built.{BuiltIs, MadeOf, Told, ShortIs, found-room};
-ghost use Rattle.compile.specs.Rows.{Putable, Whole};
+ghost use Rattle.tables.specs.Rows.{Putable, Whole};
 
 // The first refusal with what it carries; that the room is too short; or the counts of the net that stands in it.
 pub enum Built {

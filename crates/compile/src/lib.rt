@@ -1,17 +1,12 @@
 // 01, "Net tables": the compile call, from the plan to the three lent tables.
 pub mod building;
-mod copying;
 pub mod front;
-pub mod kinds;
-mod rooms;
-mod rows;
-mod searched;
 
 use crate::building::Built;
 use crate::building::build;
 use crate::building::found_room;
-use crate::copying::put;
-use crate::kinds::write_kinds;
+use tables::copying::put;
+use tables::kinds::write_kinds;
 ghost use mathlib.Core.Path.{_≡_};
 ghost use mathlib.Core.Bool.{_&&_};
 ghost use mathlib.Core.List.{List, _++_};

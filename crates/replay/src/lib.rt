@@ -16,7 +16,7 @@ use compile::WIDE_PLAN;
 use compile::building::Built;
 use compile::building::build;
 use compile::building::found_room;
-use compile::kinds::write_run;
+use tables::kinds::write_run;
 use net::tokens::has_room;
 use run::Ran;
 use run::run_record;

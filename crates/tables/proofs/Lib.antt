@@ -1,0 +1,4 @@
+pub mod Puts
+pub mod FromLists
+pub mod IntoLists
+pub mod Runs

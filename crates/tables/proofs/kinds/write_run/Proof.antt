@@ -1,0 +1,64 @@
+-- `write_run` meets its contract. The loop's invariant: the whole run over the kinds at entry is what is left of it over the kinds now.
+-- The measure is what is left. Assumes nothing.
+use Prim.Native.Nat.{_+_, _≤_}
+use native.Mathlib.Omega.{arith}
+use mathlib.Core.Path.{_≡_, refl, sym, _∙_, ap}
+use lib.ListN.{length, replicate, length-set}
+use lib.Seq.{sets}
+use Rattle.tables.proofs.Runs.{one-stored}
+use Rattle.tables.proofs.kinds.write_run.Statement.{statement}
+use Rattle.tables.proofs.kinds.write_run.Tie as tie
+
+abbrev Inv-loop : tie.InvT-loop
+Inv-loop kinds₀ start count kind at₀ left₀ kinds at left =
+    (sets kinds₀ start (replicate count kind) ≡ sets kinds at (replicate left kind)) × (at + left ≤ length kinds) × (length kinds ≡ length kinds₀)
+
+abbrev μ-loop : tie.MeasureT-loop
+μ-loop kinds₀ start count kind at₀ left₀ kinds at left = left
+
+loop-holds : tie.Need-loop-holds Inv-loop μ-loop
+loop-holds c = (refl, c .pre, refl)
+
+slice-write-kinds : tie.Need-slice-write-kinds Inv-loop μ-loop
+slice-write-kinds c = omega arith
+
+add-at : tie.Need-add-at Inv-loop μ-loop
+add-at c = omega arith
+
+sub-left : tie.Need-sub-left Inv-loop μ-loop
+sub-left c = omega arith
+
+loop-less : tie.Need-loop-less Inv-loop μ-loop
+loop-less c = omega arith
+
+loop-again : tie.Need-loop-again Inv-loop μ-loop
+loop-again c =
+    let l = c .before .loop in
+    let kind = c .before .before .args .kind in
+    let e = length-set (l .kinds) (l .at) kind in
+    (l .inv .0 ∙ one-stored (l .kinds) (l .at) (l .left) kind (omega arith), omega (arith, e), omega (arith, e))
+
+same-length : tie.Need-same-length Inv-loop μ-loop
+same-length c = c .before .loop .inv .2
+
+returns : tie.Need-returns Inv-loop μ-loop
+returns c =
+    let l = c .before .loop in
+    let kind = c .before .before .args .kind in
+    let e : l .left ≡ 0 = omega arith in
+    sym (l .inv .0 ∙ ap (λ j. sets (l .kinds) (l .at) (replicate j kind)) e)
+
+pub write-run-spec : {M : Type 1} → statement M
+write-run-spec =
+    tie.close
+    (tie.spec
+    Inv-loop
+    μ-loop
+    loop-holds
+    slice-write-kinds
+    add-at
+    sub-left
+    loop-less
+    loop-again
+    same-length
+    returns)
