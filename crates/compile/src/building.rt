@@ -2,9 +2,9 @@
 // as long as the caller made it, so that a small plan does not pay for a large net's.
 use crate::front::Judgement;
 use crate::front::front;
-use tables::rooms::put_transitions;
 use plan::exclusive::number_at;
 use plan::exclusive::wide;
+use tables::rooms::put_transitions;
 ghost use mathlib.Core.Path.{_≡_};
 ghost use Prim.Native.Nat.{_*_, _≤_};
 ghost use lib.ListN.{length};

@@ -179,14 +179,14 @@ fn read_field(
         return FieldRead::Refused(field::TOO_DEEP, at);
     }
     match look(s, at, actions) {
-        Head::Refused(number, carried) => FieldRead::Refused(number, carried),
+        Head::Refused(number, carried) => return FieldRead::Refused(number, carried),
         Head::Action(label) => {
             put_row(rows, node, ACTION_TAG, label, 0, node + 1, actions, at);
-            FieldRead::Read {
+            return FieldRead::Read {
                 used: 4,
                 nodes: node + 1,
                 actions: actions + 1,
-            }
+            };
         }
         Head::Operator {
             tag,
@@ -205,18 +205,21 @@ fn read_field(
                 members,
                 rows,
             ) {
-                OperandsRead::Refused(number, carried) => FieldRead::Refused(number, carried),
+                OperandsRead::Refused(number, carried) => return FieldRead::Refused(
+                    number,
+                    carried,
+                ),
                 OperandsRead::Read {
                     nodes,
                     actions: so_far,
                 } => {
                     // Only now is the node after the subtree known.
                     put_row(rows, node, tag, byte, members, nodes, actions, at);
-                    FieldRead::Read {
+                    return FieldRead::Read {
                         used: e,
                         nodes: nodes,
                         actions: so_far,
-                    }
+                    };
                 }
             }
         }
@@ -250,13 +253,13 @@ fn read_operands(
         return OperandsRead::Refused(field::OPERAND_DUE, at);
     }
     match read_field(s, at, levels, node, actions, rows) {
-        FieldRead::Refused(number, carried) => OperandsRead::Refused(number, carried),
+        FieldRead::Refused(number, carried) => return OperandsRead::Refused(number, carried),
         FieldRead::Read {
             used,
             nodes,
             actions: so_far,
         } => {
-            read_operands(
+            return read_operands(
                 &s[used..],
                 at + used,
                 levels,
@@ -264,7 +267,7 @@ fn read_operands(
                 so_far,
                 members - 1,
                 rows,
-            )
+            );
         }
     }
 }

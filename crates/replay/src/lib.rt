@@ -16,10 +16,10 @@ use compile::WIDE_PLAN;
 use compile::building::Built;
 use compile::building::build;
 use compile::building::found_room;
-use tables::kinds::write_run;
 use net::tokens::has_room;
 use run::Ran;
 use run::run_record;
+use tables::kinds::write_run;
 
 // A token on each entry place, and none elsewhere.
 fn mark_entries(marking: &mut [u8], entries: usize)

@@ -68,16 +68,13 @@ fn list_field(
         scope::put(list, n, label, first, NO_SECOND);
         return Filling::Many(n + 1);
     }
-    match list_operands(rows, k + 1, after, list, room, n) {
-        Filling::Full => Filling::Full,
-        Filling::Many(end) => {
-            if tag == SCOPE {
-                scope::close(rows, k, list, room, n, end)
-            } else {
-                Filling::Many(end)
-            }
-        }
+    let Filling::Many(end) = list_operands(rows, k + 1, after, list, room, n) else {
+        return Filling::Full;
+    };
+    if tag == SCOPE {
+        return scope::close(rows, k, list, room, n, end);
     }
+    Filling::Many(end)
 }
 
 // The transitions of the operands from node k to node `end`, one after another.
@@ -104,10 +101,10 @@ fn list_operands(
     if end < after {
         return Filling::Full;
     }
-    match list_field(rows, k, after, list, room, n) {
-        Filling::Full => Filling::Full,
-        Filling::Many(so_far) => list_operands(rows, after, end, list, room, so_far),
-    }
+    let Filling::Many(so_far) = list_field(rows, k, after, list, room, n) else {
+        return Filling::Full;
+    };
+    list_operands(rows, after, end, list, room, so_far)
 }
 
 // How many transitions a list has room for, but no more than are asked for.
