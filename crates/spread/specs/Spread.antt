@@ -10,12 +10,11 @@ use Rattle.algebra.specs.Arcs.{numbers, consumes, produces}
 use Rattle.plan.specs.Table.{Table}
 use Rattle.boxes.specs.NodeCounts.{node-counts}
 
--- The rows begin with the node table of an expression and the counts with those of its nodes; its places and its actions are within the limits.
+-- The rows begin with the node table of an expression and the counts with those of its nodes; its places are within the limit.
 pub record Of (rows : List ℕ) (nodes : ℕ) (counts : List ℕ) (E : Expr) : Type 0 where
   pub table : Table rows nodes E
   pub counted : take (3 * nodes) counts ≡ node-counts E
   pub few : length (places 0 E) ≤ place-limit
-  pub acts : actions E ≤ 256
 
 -- From a place on so many numbers of the room are a list, whole.
 pub record Part (room : List ℕ) (start count : ℕ) (l : List ℕ) : Type 0 where

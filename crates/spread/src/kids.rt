@@ -1,4 +1,7 @@
 // 01, "Box construction", read downwards: the rows of a node's operands, from the rows of the node.
+use crate::path::LARGEST;
+use crate::path::PATH;
+use crate::path::ROW;
 use crate::path::end_row;
 use crate::path::repeat_row;
 use crate::path::shift_row;
@@ -15,6 +18,11 @@ ghost use mathlib.Core.Bool.{true, false};
 ghost use Prim.Native.Nat.{_+_, _≤_};
 ghost use Rattle.arcs.specs.Moves.{sequence-move, choice-move, parallel-move, loop-move, Small};
 ghost use Rattle.spread.specs.Kids.{Twos, Threes, Led, Inside, Stands-in, lists-of, pair-move};
+
+// The last two of a node's four rows.
+const SECOND_PAIR: usize = 2 * ROW;
+
+const LAST_ROW: usize = 3 * ROW;
 
 // A node on the way: the rows of its entries and of its exits, the final number of its first internal place, where the free rows begin, how
 // far the room is used, and how many operands wait on the stack.
@@ -92,7 +100,7 @@ fn not_three() -> Three
 }
 
 // "E;F: entries of E; internals of E, of F, then exits(E)×entries(F); exits of F."
-fn sequence_kids(path: &mut [u16; 656], s: Spot, e: Counts, f: Counts) -> Two
+fn sequence_kids(path: &mut [u16; PATH], s: Spot, e: Counts, f: Counts) -> Two
     requires { ⌜ Stands-in s × (s .free ≤ 636) × Small e × Small f ⌝ }
     ensures inside { λ r. ⌜ (r .fits ≡ true → Inside (r .first) (s .free + 20) × Inside (r .second) (s .free + 20)) ⌝ }
     ensures twos { λ r. ⌜ (r .fits ≡ true → Led (now (path .entry)) s → Twos (now (path .entry)) (now (path .exit)) s r (λ o k. sequence-move o k e f)) ⌝ }
@@ -102,10 +110,10 @@ fn sequence_kids(path: &mut [u16; 656], s: Spot, e: Counts, f: Counts) -> Two
     let exit = of_sequence(Operand::First, Kind::Exit, e, f);
     let entry = of_sequence(Operand::Second, Kind::Entry, e, f);
     if end_row(path, free, exit, base) {
-        if end_row(path, free + 5, entry, base) {
+        if end_row(path, free + ROW, entry, base) {
             return two_fit(
                 lists_at(s.entry, free, base),
-                lists_at(free + 5, s.exit, base + e.internals),
+                lists_at(free + ROW, s.exit, base + e.internals),
             );
         }
         return not_two();
@@ -114,7 +122,7 @@ fn sequence_kids(path: &mut [u16; 656], s: Spot, e: Counts, f: Counts) -> Two
 }
 
 // "E□F: entries(E)×entries(F); internals joined; exits(E)×exits(F)."
-fn choice_kids(path: &mut [u16; 656], s: Spot, e: Counts, f: Counts) -> Two
+fn choice_kids(path: &mut [u16; PATH], s: Spot, e: Counts, f: Counts) -> Two
     requires { ⌜ Stands-in s × (s .free ≤ 636) × Small e × Small f ⌝ }
     ensures inside { λ r. ⌜ (r .fits ≡ true → Inside (r .first) (s .free + 20) × Inside (r .second) (s .free + 20)) ⌝ }
     ensures twos { λ r. ⌜ (r .fits ≡ true → Led (now (path .entry)) s → Twos (now (path .entry)) (now (path .exit)) s r (λ o k. choice-move o k e f)) ⌝ }
@@ -122,9 +130,9 @@ fn choice_kids(path: &mut [u16; 656], s: Spot, e: Counts, f: Counts) -> Two
     let free = s.free;
     let base = s.base + e.internals;
     let a = stretch_row(path, s.entry, free, f.entries);
-    let b = stretch_row(path, s.exit, free + 5, f.exits);
-    let c = repeat_row(path, s.entry, free + 10, e.entries, f.entries);
-    let d = repeat_row(path, s.exit, free + 15, e.exits, f.exits);
+    let b = stretch_row(path, s.exit, free + ROW, f.exits);
+    let c = repeat_row(path, s.entry, free + SECOND_PAIR, e.entries, f.entries);
+    let d = repeat_row(path, s.exit, free + LAST_ROW, e.exits, f.exits);
     if a == 0 {
         return not_two();
     }
@@ -137,28 +145,28 @@ fn choice_kids(path: &mut [u16; 656], s: Spot, e: Counts, f: Counts) -> Two
     if d == 0 {
         return not_two();
     }
-    if 65535 < base {
+    if LARGEST < base {
         return not_two();
     }
     two_fit(lists_at(a, b, s.base), lists_at(c, d, base))
 }
 
 // "E‖F: each list joined, E's first."
-fn parallel_kids(path: &mut [u16; 656], s: Spot, e: Counts) -> Two
+fn parallel_kids(path: &mut [u16; PATH], s: Spot, e: Counts) -> Two
     requires { ⌜ Stands-in s × (s .free ≤ 636) × Small e ⌝ }
     ensures inside { λ r. ⌜ (r .fits ≡ true → Inside (r .first) (s .free + 20) × Inside (r .second) (s .free + 20)) ⌝ }
     ensures twos { λ r. ⌜ (r .fits ≡ true → Led (now (path .entry)) s → Twos (now (path .entry)) (now (path .exit)) s r (λ o k. parallel-move o k e)) ⌝ }
 {
     let free = s.free;
     let base = s.base + e.internals;
-    if 65535 < base {
+    if LARGEST < base {
         return not_two();
     }
     if shift_row(path, s.entry, free, e.entries) {
-        if shift_row(path, s.exit, free + 5, e.exits) {
+        if shift_row(path, s.exit, free + ROW, e.exits) {
             return two_fit(
                 lists_at(s.entry, s.exit, s.base),
-                lists_at(free, free + 5, base),
+                lists_at(free, free + ROW, base),
             );
         }
         return not_two();
@@ -167,7 +175,7 @@ fn parallel_kids(path: &mut [u16; 656], s: Spot, e: Counts) -> Two
 }
 
 // The operands of a sequence, a choice or a parallel.
-pub fn two_of(path: &mut [u16; 656], tag: usize, s: Spot, e: Counts, f: Counts) -> Two
+pub fn two_of(path: &mut [u16; PATH], tag: usize, s: Spot, e: Counts, f: Counts) -> Two
     requires { ⌜ Stands-in s × (s .free ≤ 636) × Small e × Small f ⌝ }
     ensures inside { λ r. ⌜ (r .fits ≡ true → Inside (r .first) (s .free + 20) × Inside (r .second) (s .free + 20)) ⌝ }
     ensures twos { λ r. ⌜ (r .fits ≡ true → Led (now (path .entry)) s → Twos (now (path .entry)) (now (path .exit)) s r (pair-move tag e f)) ⌝ }
@@ -182,7 +190,7 @@ pub fn two_of(path: &mut [u16; 656], tag: usize, s: Spot, e: Counts, f: Counts) 
 }
 
 // "Loop: entries of E; internals of E, F, G, then exits(E)×exits(F)×entries(F)×entries(G); exits of G."
-pub fn three_of(path: &mut [u16; 656], s: Spot, e: Counts, f: Counts, g: Counts) -> Three
+pub fn three_of(path: &mut [u16; PATH], s: Spot, e: Counts, f: Counts, g: Counts) -> Three
     requires { ⌜ Stands-in s × (s .free ≤ 636) × Small e × Small f × Small g ⌝ }
     ensures inside { λ r. ⌜ (r .fits ≡ true → Inside (r .first) (s .free + 20) × Inside (r .second) (s .free + 20) × Inside (r .third) (s .free + 20)) ⌝ }
     ensures threes { λ r. ⌜ (r .fits ≡ true → Led (now (path .entry)) s → Threes (now (path .entry)) (now (path .exit)) s r (λ o k. loop-move o k e f g)) ⌝ }
@@ -194,14 +202,14 @@ pub fn three_of(path: &mut [u16; 656], s: Spot, e: Counts, f: Counts, g: Counts)
     let c = of_loop(Operand::Second, Kind::Exit, e, f, g);
     let d = of_loop(Operand::Third, Kind::Entry, e, f, g);
     if end_row(path, free, a, base) {
-        if end_row(path, free + 5, b, base) {
-            if end_row(path, free + 10, c, base) {
-                if end_row(path, free + 15, d, base) {
+        if end_row(path, free + ROW, b, base) {
+            if end_row(path, free + SECOND_PAIR, c, base) {
+                if end_row(path, free + LAST_ROW, d, base) {
                     return Three {
                         fits: true,
                         first: lists_at(s.entry, free, base),
-                        second: lists_at(free + 5, free + 10, base + e.internals),
-                        third: lists_at(free + 15, s.exit, base + e.internals + f.internals),
+                        second: lists_at(free + ROW, free + SECOND_PAIR, base + e.internals),
+                        third: lists_at(free + LAST_ROW, s.exit, base + e.internals + f.internals),
                     };
                 }
                 return not_three();

@@ -6,7 +6,13 @@ mod room;
 mod walk;
 
 use crate::kids::Spot;
+use crate::path::FIRST_FREE;
+use crate::path::LARGEST;
+use crate::path::PATH;
+use crate::path::ROOT_ENTRIES;
+use crate::path::ROOT_EXITS;
 use crate::path::end_row;
+use crate::walk::STACK;
 use crate::walk::walk;
 use arcs::moves::Kind;
 use arcs::moves::base_of;
@@ -26,18 +32,18 @@ fn numbers_in(s: &[u16]) -> usize
     s.len()
 }
 
-// Rows for 32 nodes inside each other, and the root.
-fn no_path() -> [u16; 656]
+// No rows yet.
+fn no_path() -> [u16; PATH]
     ensures { λ r. ⌜ r ≡ replicate 656 0 ⌝ }
 {
-    [0u16; 656]
+    [0u16; PATH]
 }
 
-// Two operands wait for each of them at most.
-fn no_stack() -> [u16; 272]
+// No operand waits.
+fn no_stack() -> [u16; STACK]
     ensures { λ r. ⌜ r ≡ replicate 272 0 ⌝ }
 {
-    [0u16; 272]
+    [0u16; STACK]
 }
 
 // The walk from the root, with a path and a stack to write into: "Final numbers: entries from 0, then internals, then exits".
@@ -45,8 +51,8 @@ fn spread_over(
     rows: &[u16],
     nodes: usize,
     counts: &[u16],
-    path: &mut [u16; 656],
-    stack: &mut [u16; 272],
+    path: &mut [u16; PATH],
+    stack: &mut [u16; STACK],
     room: &mut [u16],
     index: &mut [u16],
 ) -> bool
@@ -56,17 +62,17 @@ fn spread_over(
 {
     let whole = counts_at(counts, 0);
     let last = base_of(Kind::Exit, whole);
-    if 65535 < last {
+    if LARGEST < last {
         return false;
     }
-    if end_row(path, 1, shifted(Kind::Entry, 0), 0) {
-        if end_row(path, 6, shifted(Kind::Exit, 0), last) {
+    if end_row(path, ROOT_ENTRIES, shifted(Kind::Entry, 0), 0) {
+        if end_row(path, ROOT_EXITS, shifted(Kind::Exit, 0), last) {
             let root = Spot {
                 node: 0,
-                entry: 1,
-                exit: 6,
+                entry: ROOT_ENTRIES,
+                exit: ROOT_EXITS,
                 base: whole.entries,
-                free: 11,
+                free: FIRST_FREE,
                 at: 0,
                 top: 0,
             };
@@ -89,13 +95,13 @@ pub fn spread(
 ) -> bool
     ensures { λ r. ⌜ (r ≡ true → Spreads (now (rows .entry)) nodes (now (counts .entry)) (now (room .exit)) (now (index .exit))) ⌝ }
 {
-    if 65535 < room.len() {
+    if LARGEST < room.len() {
         return false;
     }
     if nodes == 0 {
         return false;
     }
-    if 4096 < nodes {
+    if field::PLAN_LIMIT < nodes {
         return false;
     }
     if rows.len() < 6 * nodes {

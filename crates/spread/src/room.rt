@@ -1,4 +1,6 @@
 // Lists of positions are changed in place, from `at` on in a room of any length: where a list does not fit, the answer is 0.
+use crate::path::LARGEST;
+use crate::path::PATH;
 use plan::exclusive::wide;
 ghost use mathlib.Core.Path.{_≡_};
 ghost use mathlib.Core.Bool.{true, false};
@@ -43,7 +45,7 @@ fn shift(room: &mut [u16], at: usize, count: usize, off: usize) -> usize
     let mut i = 0;
     while i < count {
         let p = wide(room[at + i]) + off;
-        if 65535 < p {
+        if LARGEST < p {
             return 0;
         }
         room[at + i] = p as u16;
@@ -99,7 +101,7 @@ fn repeat(room: &mut [u16], at: usize, count: usize, left: usize, step: usize) -
     let mut k = count;
     while k < total {
         let p = wide(room[at + k - count]);
-        if 65535 < p + step {
+        if LARGEST < p + step {
             return 0;
         }
         room[at + k] = (p + step) as u16;
@@ -109,7 +111,7 @@ fn repeat(room: &mut [u16], at: usize, count: usize, left: usize, step: usize) -
 }
 
 // One row up: the positions changed as a row of the path says.
-fn rise(path: &[u16; 656], row: usize, room: &mut [u16], at: usize, count: usize) -> usize
+fn rise(path: &[u16; PATH], row: usize, room: &mut [u16], at: usize, count: usize) -> usize
     requires { ⌜ Within (now room) at count × (row + 5 ≤ 656) ⌝ }
     ensures fits { λ r. ⌜ Fits (now (room .entry)) (now (room .exit)) at r ⌝ }
     ensures changes { λ r. ⌜ Changes (now (room .entry)) (now (room .exit)) at count r (risen (now (path .entry)) row) ⌝ }
@@ -126,7 +128,7 @@ fn rise(path: &[u16; 656], row: usize, room: &mut [u16], at: usize, count: usize
 }
 
 // All the way up, from a row on; row 0 is none. A row that goes on with a later one is refused.
-fn climb(path: &[u16; 656], row: usize, room: &mut [u16], at: usize, count: usize) -> usize
+fn climb(path: &[u16; PATH], row: usize, room: &mut [u16], at: usize, count: usize) -> usize
     requires { ⌜ Within (now room) at count × (row ≤ 651) ⌝ }
     ensures fits { λ r. ⌜ Fits (now (room .entry)) (now (room .exit)) at r ⌝ }
     ensures changes { λ r. ⌜ Changes (now (room .entry)) (now (room .exit)) at count r (final (now (path .entry)) row) ⌝ }
@@ -146,7 +148,7 @@ fn climb(path: &[u16; 656], row: usize, room: &mut [u16], at: usize, count: usiz
 }
 
 // The final numbers of an action's own place, which is the only one of its list: a run, repeated, and then up.
-pub fn list_places(path: &[u16; 656], row: usize, room: &mut [u16], at: usize) -> usize
+pub fn list_places(path: &[u16; PATH], row: usize, room: &mut [u16], at: usize) -> usize
     requires { ⌜ (length (now room) ≤ 65535) × (0 < row) × (row ≤ 651) ⌝ }
     ensures long { λ _. ⌜ length (now (room .exit)) ≡ length (now (room .entry)) ⌝ }
     ensures made { λ r. ⌜ (0 < r → Made (now (room .entry)) (now (room .exit)) at r (final (now (path .entry)) row (0 ∷ []))) ⌝ }
@@ -193,7 +195,7 @@ fn is_one(up: u16, left: u16, right: u16) -> bool
 }
 
 // The same where they are one number, as they nearly always are; false: they are not, and nothing is written.
-pub fn list_one(path: &[u16; 656], row: usize, room: &mut [u16], at: usize) -> bool
+pub fn list_one(path: &[u16; PATH], row: usize, room: &mut [u16], at: usize) -> bool
     requires { ⌜ (0 < row) × (row ≤ 651) ⌝ }
     ensures made { λ r. ⌜ (r ≡ true → Made (now (room .entry)) (now (room .exit)) at 1 (final (now (path .entry)) row (0 ∷ []))) ⌝ }
     ensures kept { λ r. ⌜ (r ≡ false → now (room .exit) ≡ now (room .entry)) ⌝ }

@@ -4,6 +4,9 @@ use crate::kids::Spot;
 use crate::kids::lists_at;
 use crate::kids::three_of;
 use crate::kids::two_of;
+use crate::path::LAST_FREE;
+use crate::path::OPERAND_ROWS;
+use crate::path::PATH;
 use crate::room::list_one;
 use crate::room::list_places;
 use arcs::moves::Counts;
@@ -25,6 +28,15 @@ ghost use Rattle.arcs.specs.Search.{counts-at};
 ghost use Rattle.spread.specs.Kids.{spot-of, stop-at, Stands-in, Inside};
 ghost use Rattle.spread.specs.Walk.{Tables, Inner, pair-put, PutOutputs, Put};
 ghost use Rattle.spread.specs.Stack.{spot-at, push-put, Sound, Steps, Reached, All};
+
+// A loop's two later operands wait while its first is walked, at each of the nodes inside each other; the rest is to spare.
+const WAITING: usize = 2 * field::DEPTH_LIMIT + 4;
+
+// Four numbers for each that waits.
+pub const STACK: usize = 4 * WAITING;
+
+// From here on there is no room for two more.
+const LAST_TOP: usize = WAITING - 2;
 
 // Number j of row k of the node table.
 fn row_at(rows: &[u16], k: usize, j: usize) -> usize
@@ -60,7 +72,7 @@ fn put_outputs(
     s: Spot,
     i: usize,
     inputs: usize,
-    path: &[u16; 656],
+    path: &[u16; PATH],
     room: &mut [u16],
     index: &mut [u16],
 ) -> usize
@@ -88,7 +100,7 @@ fn put_outputs(
 fn put_action(
     rows: &[u16],
     s: Spot,
-    path: &[u16; 656],
+    path: &[u16; PATH],
     room: &mut [u16],
     index: &mut [u16],
 ) -> usize
@@ -135,14 +147,14 @@ fn under(s: Spot, l: Lists, top: usize) -> Spot
         entry: l.entry,
         exit: l.exit,
         base: l.base,
-        free: s.free + 20,
+        free: s.free + OPERAND_ROWS,
         at: s.at,
         top: top,
     }
 }
 
 // An operand waits: its lists, and where its free rows begin.
-fn push(stack: &mut [u16; 272], t: usize, l: Lists, free: usize)
+fn push(stack: &mut [u16; STACK], t: usize, l: Lists, free: usize)
     requires { ⌜ (t ≤ 67) × Inside l free × (free ≤ 656) ⌝ }
     ensures { λ _. ⌜ now (stack .exit) ≡ push-put (now (stack .entry)) t l free ⌝ }
 {
@@ -153,7 +165,7 @@ fn push(stack: &mut [u16; 272], t: usize, l: Lists, free: usize)
 }
 
 // The operand that was put last, which is the next node.
-fn pop(stack: &[u16; 272], t: usize, node: usize, at: usize) -> Spot
+fn pop(stack: &[u16; STACK], t: usize, node: usize, at: usize) -> Spot
     requires { ⌜ t ≤ 67 ⌝ }
     ensures { λ r. ⌜ r ≡ spot-at (now (stack .entry)) t node at ⌝ }
 {
@@ -176,8 +188,8 @@ fn down_two(
     s: Spot,
     tag: usize,
     second: usize,
-    path: &mut [u16; 656],
-    stack: &mut [u16; 272],
+    path: &mut [u16; PATH],
+    stack: &mut [u16; STACK],
 ) -> Spot
     requires { ⌜ Tables (now rows) (now counts) nodes × Sound (now stack) s × Inner (now rows) nodes s tag second ⌝ }
     ensures sound { λ r. ⌜ Sound (now (stack .exit)) r × (s .node < r .node) × (r .at ≡ s .at) ⌝ }
@@ -187,7 +199,7 @@ fn down_two(
     let f = counts_of(counts, second);
     let both = two_of(path, tag, s, e, f);
     if both.fits {
-        push(stack, s.top, both.second, s.free + 20);
+        push(stack, s.top, both.second, s.free + OPERAND_ROWS);
         return under(s, both.first, s.top + 1);
     }
     stop(s, nodes)
@@ -201,8 +213,8 @@ fn down_three(
     s: Spot,
     tag: usize,
     second: usize,
-    path: &mut [u16; 656],
-    stack: &mut [u16; 272],
+    path: &mut [u16; PATH],
+    stack: &mut [u16; STACK],
 ) -> Spot
     requires { ⌜ Tables (now rows) (now counts) nodes × Sound (now stack) s × Inner (now rows) nodes s tag second ⌝ }
     ensures sound { λ r. ⌜ Sound (now (stack .exit)) r × (s .node < r .node) × (r .at ≡ s .at) ⌝ }
@@ -217,8 +229,8 @@ fn down_three(
     let g = counts_of(counts, third);
     let all = three_of(path, s, e, f, g);
     if all.fits {
-        push(stack, s.top, all.third, s.free + 20);
-        push(stack, s.top + 1, all.second, s.free + 20);
+        push(stack, s.top, all.third, s.free + OPERAND_ROWS);
+        push(stack, s.top + 1, all.second, s.free + OPERAND_ROWS);
         return under(s, all.first, s.top + 2);
     }
     stop(s, nodes)
@@ -231,8 +243,8 @@ fn down(
     nodes: usize,
     s: Spot,
     tag: usize,
-    path: &mut [u16; 656],
-    stack: &mut [u16; 272],
+    path: &mut [u16; PATH],
+    stack: &mut [u16; STACK],
 ) -> Spot
     requires { ⌜ Tables (now rows) (now counts) nodes × Sound (now stack) s × (s .node < nodes) × (tag ≡ tag-at (now rows) (s .node)) × (tag ≡ 1 → ⊥) ⌝ }
     ensures sound { λ r. ⌜ Sound (now (stack .exit)) r × (s .node < r .node) × (r .at ≡ s .at) ⌝ }
@@ -241,7 +253,7 @@ fn down(
     if nodes <= s.node + 1 {
         return stop(s, nodes);
     }
-    if 636 < s.free {
+    if LAST_FREE < s.free {
         return stop(s, nodes);
     }
     if tag == SCOPE {
@@ -251,7 +263,7 @@ fn down(
     if nodes <= second {
         return stop(s, nodes);
     }
-    if 66 < s.top {
+    if LAST_TOP < s.top {
         return stop(s, nodes);
     }
     if tag == LOOP {
@@ -266,8 +278,8 @@ pub fn walk(
     counts: &[u16],
     nodes: usize,
     root: Spot,
-    path: &mut [u16; 656],
-    stack: &mut [u16; 272],
+    path: &mut [u16; PATH],
+    stack: &mut [u16; STACK],
     room: &mut [u16],
     index: &mut [u16],
 ) -> bool

@@ -108,7 +108,7 @@ module _ (table : List ℕ) (nodes : ℕ) (counts list : List ℕ) (many : ℕ) 
   -- ---- the lists of one walk
   module _ {lists index : List ℕ} (s : Spreads table nodes counts lists index) where
     of-spread : (E : Expr) → OfAll table nodes counts list many E → spread.Of table nodes counts E
-    of-spread E o = record { table = o .nodes-of; counted = o .counted; few = o .few; acts = o .few-actions }
+    of-spread E o = record { table = o .nodes-of; counted = o .counted; few = o .few }
 
     by-acts : (E : Expr) → OfAll table nodes counts list many E → (item : Item) → Acts item E → ItemPlaces lists index E item
     by-acts E o (one i) a = s E (of-spread E o) i a
