@@ -35,7 +35,7 @@ pub fn arcs_of_action(
     counts: &[u16],
     i: usize,
     side: Side,
-    out: &mut [u16; 2048],
+    out: &mut [u16; field::PLACE_LIMIT],
 ) -> usize
     requires { ⌜ Asked (now rows) nodes (now counts) (one i) × (length (now rows) ≤ 8196) ⌝ }
     ensures { λ r. ⌜ ((E : Expr) → Of (now (rows .entry)) nodes (now (counts .entry)) (one i) E → Begins (now (out .exit)) r (numbers (passes side i) 0 (places 0 E))) ⌝ }

@@ -117,7 +117,7 @@ fn move_of(rows: &[u16], counts: &[u16], k: usize, operand: Operand, kind: Kind)
 }
 
 // The positions, moved.
-fn rise(out: &mut [u16; 2048], count: usize, m: Move) -> Positions
+fn rise(out: &mut [u16; field::PLACE_LIMIT], count: usize, m: Move) -> Positions
     requires { ⌜ Movable (now out) count m ⌝ }
     ensures { λ r. ⌜ (r .kind ≡ m .kind) × Became (now (out .exit)) (r .count) (moved m (take count (now (out .entry)))) ⌝ }
 {
@@ -137,7 +137,7 @@ pub fn find(
     k: usize,
     i: usize,
     side: Side,
-    out: &mut [u16; 2048],
+    out: &mut [u16; field::PLACE_LIMIT],
 ) -> Positions
     requires { ⌜ Asks (now rows) (now counts) k i × (length (now out) ≡ 2048) ⌝ }
     ensures { λ r. ⌜ Found (now (rows .entry)) (now (counts .entry)) k side i (r .kind) (r .count) (now (out .exit)) ⌝ }

@@ -7,7 +7,7 @@ ghost use Rattle.arcs.specs.Positions.{stretched, repeated};
 ghost use Rattle.arcs.specs.Widen.{Ran, Became, Stretchable, Repeatable};
 
 // So many numbers from `from` on, written from `at` on.
-fn put_run(out: &mut [u16; 2048], at: usize, from: usize, count: usize)
+fn put_run(out: &mut [u16; field::PLACE_LIMIT], at: usize, from: usize, count: usize)
     requires { ⌜ (length (now out) ≡ 2048) × (at + count ≤ 2048) × (from + count ≤ 65536) ⌝ }
     ensures { λ _. ⌜ Ran (now (out .entry)) (now (out .exit)) at from count ⌝ }
 {
@@ -19,7 +19,7 @@ fn put_run(out: &mut [u16; 2048], at: usize, from: usize, count: usize)
 }
 
 // Each of the first `count` positions becomes a run of `right`, from the last one down, so that none is written over before it is read.
-pub fn stretch(out: &mut [u16; 2048], count: usize, right: usize, off: usize) -> usize
+pub fn stretch(out: &mut [u16; field::PLACE_LIMIT], count: usize, right: usize, off: usize) -> usize
     requires { ⌜ Stretchable (now out) count right off ⌝ }
     ensures { λ r. ⌜ Became (now (out .exit)) r (stretched right off (take count (now (out .entry)))) ⌝ }
 {
@@ -33,7 +33,7 @@ pub fn stretch(out: &mut [u16; 2048], count: usize, right: usize, off: usize) ->
 }
 
 // The first `count` positions `left` times: each is `step` more than the one `count` places before it.
-pub fn repeat(out: &mut [u16; 2048], count: usize, left: usize, step: usize) -> usize
+pub fn repeat(out: &mut [u16; field::PLACE_LIMIT], count: usize, left: usize, step: usize) -> usize
     requires { ⌜ Repeatable (now out) count left step ⌝ }
     ensures { λ r. ⌜ Became (now (out .exit)) r (repeated left step (take count (now (out .entry)))) ⌝ }
 {

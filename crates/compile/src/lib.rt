@@ -5,8 +5,17 @@ pub mod front;
 use crate::building::Built;
 use crate::building::build;
 use crate::building::found_room;
+use plan::COUNTS;
+use plan::ROWS;
 use tables::copying::put;
 use tables::kinds::write_kinds;
+use tables::rooms::MIDDLE_ARCS;
+use tables::rooms::MIDDLE_TRANSITIONS;
+use tables::rooms::SMALL_ARCS;
+use tables::rooms::SMALL_TRANSITIONS;
+use tables::rooms::WIDE_ARCS;
+use tables::rooms::WIDE_TRANSITIONS;
+use transitions::MOST;
 ghost use mathlib.Core.Path.{_≡_};
 ghost use mathlib.Core.Bool.{_&&_};
 ghost use mathlib.Core.List.{List, _++_};
@@ -150,11 +159,11 @@ fn compile_in(
 fn compile_large(plan: &[u8], kinds: &mut [u8], rows: &mut [u16], arcs: &mut [u16]) -> Built
     ensures { λ r. ⌜ Leaves (now (plan .entry)) (lent (now (kinds .entry)) (now (rows .entry)) (now (arcs .entry))) (built-says r) (now (kinds .exit)) (now (rows .exit)) (now (arcs .exit)) ⌝ }
 {
-    let mut table = [0u16; 8196];
-    let mut counts = [0u16; 4098];
-    let mut list = [0u16; 3840];
-    let mut made_rows = [0u16; 6144];
-    let mut made_arcs = [0u16; 16384];
+    let mut table = [0u16; ROWS];
+    let mut counts = [0u16; COUNTS];
+    let mut list = [0u16; 3 * MOST];
+    let mut made_rows = [0u16; 6 * field::TRANSITION_LIMIT];
+    let mut made_arcs = [0u16; field::ARC_LIMIT];
     compile_in(
         plan,
         &mut table,
@@ -177,9 +186,9 @@ fn compile_wide(plan: &[u8], kinds: &mut [u8], rows: &mut [u16], arcs: &mut [u16
     }
     let mut table = [0u16; 2 * WIDE_PLAN];
     let mut counts = [0u16; WIDE_PLAN];
-    let mut list = [0u16; 768];
-    let mut made_rows = [0u16; 1536];
-    let mut made_arcs = [0u16; 4096];
+    let mut list = [0u16; 3 * WIDE_TRANSITIONS];
+    let mut made_rows = [0u16; 6 * WIDE_TRANSITIONS];
+    let mut made_arcs = [0u16; WIDE_ARCS];
     let tried = compile_in(
         plan,
         &mut table,
@@ -206,9 +215,9 @@ fn compile_middle(plan: &[u8], kinds: &mut [u8], rows: &mut [u16], arcs: &mut [u
     }
     let mut table = [0u16; 2 * MIDDLE_PLAN];
     let mut counts = [0u16; MIDDLE_PLAN];
-    let mut list = [0u16; 192];
-    let mut made_rows = [0u16; 384];
-    let mut made_arcs = [0u16; 1024];
+    let mut list = [0u16; 3 * MIDDLE_TRANSITIONS];
+    let mut made_rows = [0u16; 6 * MIDDLE_TRANSITIONS];
+    let mut made_arcs = [0u16; MIDDLE_ARCS];
     let tried = compile_in(
         plan,
         &mut table,
@@ -235,9 +244,9 @@ fn compile_small(plan: &[u8], kinds: &mut [u8], rows: &mut [u16], arcs: &mut [u1
     }
     let mut table = [0u16; 2 * SMALL_PLAN];
     let mut counts = [0u16; SMALL_PLAN];
-    let mut list = [0u16; 48];
-    let mut made_rows = [0u16; 96];
-    let mut made_arcs = [0u16; 256];
+    let mut list = [0u16; 3 * SMALL_TRANSITIONS];
+    let mut made_rows = [0u16; 6 * SMALL_TRANSITIONS];
+    let mut made_arcs = [0u16; SMALL_ARCS];
     let tried = compile_in(
         plan,
         &mut table,

@@ -16,6 +16,9 @@ pub const ARC_LIMIT: usize = 16384;
 
 pub const RECORD_LIMIT: usize = 16384;
 
+// 01, "Net tables": "second action or 65,535".
+pub const NO_SECOND: usize = 65535;
+
 // 01, "Refusal numbers", in the order of its table.
 pub const PLAN_TOO_LONG: usize = 1;
 

@@ -7,9 +7,6 @@ use libc::STDOUT_FILENO;
 
 const ROOM: usize = 4096;
 
-// "second action or 65,535"
-const NO_SECOND: usize = 65535;
-
 fn write_first(out: &[u8], n: usize)
     requires { ⌜ n ≤ length (now out) ⌝ }
 {
@@ -112,7 +109,7 @@ fn put_second(out: &mut [u8; ROOM], at: usize, second: usize) -> usize
     requires { ⌜ at ≤ 4096 ⌝ }
     ensures { λ r. ⌜ r ≤ 4096 ⌝ }
 {
-    if second == NO_SECOND {
+    if second == field::NO_SECOND {
         return put_text(out, at, b" -");
     }
     put_next(out, at, second)

@@ -9,17 +9,17 @@ ghost use Rattle.net.specs.Passes.{second-or-256, pairs-pass};
 use crate::rows;
 
 // A chain for each action, with nothing on it.
-pub fn no_heads() -> [u16; 256]
+pub fn no_heads() -> [u16; field::ACTION_LIMIT]
     ensures { λ r. ⌜ r ≡ replicate 256 65535 ⌝ }
 {
-    [65535u16; 256]
+    [65535u16; field::ACTION_LIMIT]
 }
 
 // Room for the transitions behind each one on its chain.
-pub fn no_nexts() -> [u16; 1024]
+pub fn no_nexts() -> [u16; field::TRANSITION_LIMIT]
     ensures { λ r. ⌜ r ≡ replicate 1024 0 ⌝ }
 {
-    [0u16; 1024]
+    [0u16; field::TRANSITION_LIMIT]
 }
 
 // Transition t has a lower second action than the one behind it on its chain, if there is one.
@@ -29,7 +29,7 @@ fn goes_before(rows: &[u16], transitions: usize, t: usize, behind: usize) -> boo
 {
     if behind < transitions {
         let second = rows::number(rows, t, 2);
-        (second < rows::number(rows, behind, 2)) & (second < 256)
+        (second < rows::number(rows, behind, 2)) & (second < field::ACTION_LIMIT)
     } else {
         true
     }
@@ -49,7 +49,7 @@ pub fn link(rows: &[u16], transitions: usize, head: &mut [u16], next: &mut [u16]
     while 0 < t {
         t -= 1;
         let first = rows::number(rows, t, 1);
-        if first < 256 {
+        if first < field::ACTION_LIMIT {
             let behind = head[first];
             rise = rise & goes_before(rows, transitions, t, rows::wide(behind));
             next[t] = behind;
@@ -63,8 +63,8 @@ pub fn link(rows: &[u16], transitions: usize, head: &mut [u16], next: &mut [u16]
 pub fn index_by_first(
     rows: &[u16],
     transitions: usize,
-    head: &mut [u16; 256],
-    next: &mut [u16; 1024],
+    head: &mut [u16; field::ACTION_LIMIT],
+    next: &mut [u16; field::TRANSITION_LIMIT],
 )
     requires { ⌜ (transitions ≤ 1024) × (6 * transitions ≤ length (now rows)) ⌝ }
     ensures { λ _. ⌜ Chains (now (rows .entry)) transitions (now (head .exit)) (now (next .exit)) ⌝ }

@@ -53,8 +53,8 @@ pub fn is_net_with_index(
     places: usize,
     transitions: usize,
     arc_count: usize,
-    head: &mut [u16; 256],
-    next: &mut [u16; 1024],
+    head: &mut [u16; field::ACTION_LIMIT],
+    next: &mut [u16; field::TRANSITION_LIMIT],
 ) -> bool
     requires { ⌜ now head ≡ replicate 256 65535 ⌝ }
     ensures { λ r. ⌜ r ≡ is-net (lent (now (kinds .entry)) (now (rows .entry)) (now (arcs .entry)) places transitions «arc_count») ⌝ }

@@ -9,10 +9,10 @@ ghost use Rattle.net.specs.Passes.{second-or-256, seconds-differ, pairs-
 use crate::chains;
 use crate::rows;
 
-fn no_stamps() -> [u16; 257]
+fn no_stamps() -> [u16; field::ACTION_LIMIT + 1]
     ensures { λ r. ⌜ r ≡ replicate 257 0 ⌝ }
 {
-    [0u16; 257]
+    [0u16; field::ACTION_LIMIT + 1]
 }
 
 // The second action of transition t, and 256 for none.
@@ -21,15 +21,19 @@ fn second(rows: &[u16], t: usize) -> usize
     ensures { λ r. ⌜ (r ≡ second-or-256 (now (rows .entry)) t) × (r < 257) ⌝ }
 {
     let action = rows::number(rows, t, 2);
-    if action < 256 { action } else { 256 }
+    if action < field::ACTION_LIMIT {
+        action
+    } else {
+        field::ACTION_LIMIT
+    }
 }
 
 // One chain. A second action gets the chain's stamp when it is met; stamps of earlier chains are smaller, so nothing has to be wiped out between two.
 fn chain_differs(
     rows: &[u16],
     transitions: usize,
-    head: &[u16; 256],
-    next: &[u16; 1024],
+    head: &[u16; field::ACTION_LIMIT],
+    next: &[u16; field::TRANSITION_LIMIT],
     first: usize,
     stamps: &mut [u16],
 ) -> bool
@@ -69,14 +73,18 @@ fn chain_count(rows: &[u16], transitions: usize) -> usize
         above = greater(above, rows::number(rows, t, 1) + 1);
         t += 1;
     }
-    if above < 256 { above } else { 256 }
+    if above < field::ACTION_LIMIT {
+        above
+    } else {
+        field::ACTION_LIMIT
+    }
 }
 
 fn chains_differ(
     rows: &[u16],
     transitions: usize,
-    head: &[u16; 256],
-    next: &[u16; 1024],
+    head: &[u16; field::ACTION_LIMIT],
+    next: &[u16; field::TRANSITION_LIMIT],
     chains: usize,
     stamps: &mut [u16],
 ) -> bool
@@ -101,8 +109,8 @@ fn chains_differ(
 pub fn differ(
     rows: &[u16],
     transitions: usize,
-    head: &mut [u16; 256],
-    next: &mut [u16; 1024],
+    head: &mut [u16; field::ACTION_LIMIT],
+    next: &mut [u16; field::TRANSITION_LIMIT],
 ) -> bool
     requires { ⌜ (transitions ≤ 1024) × (6 * transitions ≤ length (now rows)) ⌝ }
     requires { ⌜ now head ≡ replicate 256 65535 ⌝ }

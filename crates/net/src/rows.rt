@@ -70,7 +70,8 @@ fn codes_fit(rows: &[u16], t: usize) -> bool
     let label = number(rows, t, 0);
     let first = number(rows, t, 1);
     let second = number(rows, t, 2);
-    (label != 128) & ((label <= 255) & ((first <= 255) & ((second <= 255) | (second == 65535))))
+    (label != 128)
+        & ((label <= 255) & ((first <= 255) & ((second <= 255) | (second == field::NO_SECOND))))
 }
 
 // The lists are looked at only where they end within the net's arcs: what lies behind those is not ours.

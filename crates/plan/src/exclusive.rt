@@ -147,6 +147,6 @@ pub fn check_loops(rows: &[u16], nodes: usize) -> Loops
     if nodes <= FEW_NODES {
         return check_few(rows, nodes);
     }
-    let mut exclusive = [0u16; 1366];
+    let mut exclusive = [0u16; crate::NODES];
     check_in(rows, nodes, &mut exclusive)
 }

@@ -11,8 +11,13 @@ ghost use Rattle.plan.specs.Reading.{action-tag, scope-tag, read-body, r
 ghost use Rattle.plan.specs.Says.{says, read-sizes, RowsAre};
 ghost use Rattle.plan.specs.Inner.{HeadFits, HeadIs, Inside, field-with, RowFits, with-row, FieldFits, FieldIs, OperandsFit, OperandsAre, Room};
 
-// A node takes 3 bytes at least, so a plan has at most 1,365 of them; a row has six numbers.
-pub const ROWS: usize = 6 * 1366;
+// A node takes 3 bytes at least, so a plan has at most 1,365 of them.
+pub const NODES: usize = field::PLAN_LIMIT / 3 + 1;
+
+// A row has six numbers, and a node has three counts.
+pub const ROWS: usize = 6 * NODES;
+
+pub const COUNTS: usize = 3 * NODES;
 
 // The tags of 01's table that are told apart in code; 2, 3 and 4 are a sequence, a choice and a parallel.
 const ACTION_TAG: u8 = 1;

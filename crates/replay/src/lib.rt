@@ -17,9 +17,18 @@ use compile::building::Built;
 use compile::building::build;
 use compile::building::found_room;
 use net::tokens::has_room;
+use plan::COUNTS;
+use plan::ROWS;
 use run::Ran;
 use run::run_record;
 use tables::kinds::write_run;
+use tables::rooms::MIDDLE_ARCS;
+use tables::rooms::MIDDLE_TRANSITIONS;
+use tables::rooms::SMALL_ARCS;
+use tables::rooms::SMALL_TRANSITIONS;
+use tables::rooms::WIDE_ARCS;
+use tables::rooms::WIDE_TRANSITIONS;
+use transitions::MOST;
 
 // A token on each entry place, and none elsewhere.
 fn mark_entries(marking: &mut [u8], entries: usize)
@@ -121,11 +130,11 @@ fn replay_built(built: Built, rows: &[u16], arcs: &[u16], record: &[u8], marking
 fn replay_large(plan: &[u8], record: &[u8], marking: &mut [u8]) -> Ran
     ensures { λ r. ⌜ Leaves (now (plan .entry)) (now («record» .entry)) (now (marking .entry)) r (now (marking .exit)) ⌝ }
 {
-    let mut table = [0u16; 8196];
-    let mut counts = [0u16; 4098];
-    let mut list = [0u16; 3840];
-    let mut rows = [0u16; 6144];
-    let mut arcs = [0u16; 16384];
+    let mut table = [0u16; ROWS];
+    let mut counts = [0u16; COUNTS];
+    let mut list = [0u16; 3 * MOST];
+    let mut rows = [0u16; 6 * field::TRANSITION_LIMIT];
+    let mut arcs = [0u16; field::ARC_LIMIT];
     let built = build(
         plan,
         &mut table,
@@ -146,9 +155,9 @@ fn replay_wide(plan: &[u8], record: &[u8], marking: &mut [u8]) -> Ran
     }
     let mut table = [0u16; 2 * WIDE_PLAN];
     let mut counts = [0u16; WIDE_PLAN];
-    let mut list = [0u16; 768];
-    let mut rows = [0u16; 1536];
-    let mut arcs = [0u16; 4096];
+    let mut list = [0u16; 3 * WIDE_TRANSITIONS];
+    let mut rows = [0u16; 6 * WIDE_TRANSITIONS];
+    let mut arcs = [0u16; WIDE_ARCS];
     let built = build(
         plan,
         &mut table,
@@ -172,9 +181,9 @@ fn replay_middle(plan: &[u8], record: &[u8], marking: &mut [u8]) -> Ran
     }
     let mut table = [0u16; 2 * MIDDLE_PLAN];
     let mut counts = [0u16; MIDDLE_PLAN];
-    let mut list = [0u16; 192];
-    let mut rows = [0u16; 384];
-    let mut arcs = [0u16; 1024];
+    let mut list = [0u16; 3 * MIDDLE_TRANSITIONS];
+    let mut rows = [0u16; 6 * MIDDLE_TRANSITIONS];
+    let mut arcs = [0u16; MIDDLE_ARCS];
     let built = build(
         plan,
         &mut table,
@@ -198,9 +207,9 @@ fn replay_small(plan: &[u8], record: &[u8], marking: &mut [u8]) -> Ran
     }
     let mut table = [0u16; 2 * SMALL_PLAN];
     let mut counts = [0u16; SMALL_PLAN];
-    let mut list = [0u16; 48];
-    let mut rows = [0u16; 96];
-    let mut arcs = [0u16; 256];
+    let mut list = [0u16; 3 * SMALL_TRANSITIONS];
+    let mut rows = [0u16; 6 * SMALL_TRANSITIONS];
+    let mut arcs = [0u16; SMALL_ARCS];
     let built = build(
         plan,
         &mut table,

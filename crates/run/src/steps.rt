@@ -19,6 +19,7 @@ use crate::exits;
 use record::step_at;
 use step::Fired;
 use step::firing;
+use step::form::MOST_ITEMS;
 use step::form::StepAnswer;
 
 // How far a run has come: the offset of the next step, and the steps that fired.
@@ -38,8 +39,8 @@ fn fire_front(
     rows: &[u16],
     arcs: &[u16],
     transitions: usize,
-    head: &[u16; 256],
-    next: &[u16; 1024],
+    head: &[u16; field::ACTION_LIMIT],
+    next: &[u16; field::TRANSITION_LIMIT],
     items: usize,
     firsts: &[u16],
     seconds: &[u16],
@@ -70,13 +71,13 @@ fn take_step(
     rows: &[u16],
     arcs: &[u16],
     transitions: usize,
-    head: &[u16; 256],
-    next: &[u16; 1024],
+    head: &[u16; field::ACTION_LIMIT],
+    next: &[u16; field::TRANSITION_LIMIT],
     record: &[u8],
     at: usize,
-    firsts: &mut [u16; 256],
-    seconds: &mut [u16; 256],
-    ts: &mut [u16; 256],
+    firsts: &mut [u16; MOST_ITEMS],
+    seconds: &mut [u16; MOST_ITEMS],
+    ts: &mut [u16; MOST_ITEMS],
     marking: &mut [u8],
 ) -> Taken
     requires { ⌜ InOrder (now rows) (now arcs) transitions (length (now marking)) ⌝ }
@@ -114,13 +115,13 @@ pub fn run_steps(
     arcs: &[u16],
     transitions: usize,
     exits_from: usize,
-    head: &[u16; 256],
-    next: &[u16; 1024],
+    head: &[u16; field::ACTION_LIMIT],
+    next: &[u16; field::TRANSITION_LIMIT],
     record: &[u8],
     from: Place,
-    firsts: &mut [u16; 256],
-    seconds: &mut [u16; 256],
-    ts: &mut [u16; 256],
+    firsts: &mut [u16; MOST_ITEMS],
+    seconds: &mut [u16; MOST_ITEMS],
+    ts: &mut [u16; MOST_ITEMS],
     marking: &mut [u8],
 ) -> Ran
     requires { ⌜ InOrder (now rows) (now arcs) transitions (length (now marking)) ⌝ }

@@ -21,8 +21,8 @@ use crate::moving;
 fn find(
     rows: &[u16],
     transitions: usize,
-    head: &[u16; 256],
-    next: &[u16; 1024],
+    head: &[u16; field::ACTION_LIMIT],
+    next: &[u16; field::TRANSITION_LIMIT],
     first: usize,
     second: usize,
 ) -> usize
@@ -45,8 +45,8 @@ fn find(
 fn find_items(
     rows: &[u16],
     transitions: usize,
-    head: &[u16; 256],
-    next: &[u16; 1024],
+    head: &[u16; field::ACTION_LIMIT],
+    next: &[u16; field::TRANSITION_LIMIT],
     firsts: &[u16],
     seconds: &[u16],
     ts: &mut [u16],
@@ -82,8 +82,8 @@ pub fn fire_items(
     rows: &[u16],
     arcs: &[u16],
     transitions: usize,
-    head: &[u16; 256],
-    next: &[u16; 1024],
+    head: &[u16; field::ACTION_LIMIT],
+    next: &[u16; field::TRANSITION_LIMIT],
     firsts: &[u16],
     seconds: &[u16],
     ts: &mut [u16],
@@ -107,8 +107,8 @@ pub fn read_and_fire(
     rows: &[u16],
     arcs: &[u16],
     transitions: usize,
-    head: &[u16; 256],
-    next: &[u16; 1024],
+    head: &[u16; field::ACTION_LIMIT],
+    next: &[u16; field::TRANSITION_LIMIT],
     step: &[u8],
     marking: &mut [u8],
 ) -> Fired

@@ -7,10 +7,10 @@ ghost use Rattle.step.specs.Form.{read-item, read-items, read-step, read
 ghost use Rattle.step.specs.FormSays.{tag-count, item-says, ItemFits, item-number, items-say, ItemsFit, head-says, HeadFits, step-head, step-says, StepFits};
 
 // What stands for the second action of an item that has one action only.
-pub const NO_SECOND: u16 = 65535;
+const NO_SECOND: u16 = field::NO_SECOND as u16;
 
 // First actions strictly rise and are bytes, so a step has no more items.
-pub const MOST_ITEMS: usize = 256;
+pub const MOST_ITEMS: usize = field::ACTION_LIMIT;
 
 // The item at the front of what is left of a body, and the bytes that it takes.
 pub enum ItemAnswer {

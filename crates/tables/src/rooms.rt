@@ -8,6 +8,19 @@ ghost use Prim.Native.Nat.{_≤_};
 ghost use lib.ListN.{length};
 ghost use Rattle.tables.specs.Rows.{Putable, PutAll};
 
+// Room smaller than for the limits, in fourfold steps: for so many transitions and arcs. As many actions find room as transitions.
+pub const SMALL_TRANSITIONS: usize = 16;
+
+pub const SMALL_ARCS: usize = 256;
+
+pub const MIDDLE_TRANSITIONS: usize = 64;
+
+pub const MIDDLE_ARCS: usize = 1024;
+
+pub const WIDE_TRANSITIONS: usize = 256;
+
+pub const WIDE_ARCS: usize = 4096;
+
 // Where the places do not fit the largest room: with an array to search in.
 fn put_unlisted(
     table: &[u16],
@@ -24,7 +37,7 @@ fn put_unlisted(
     requires { ⌜ (8192 ≤ length (now lists)) × (1024 ≤ length (now index)) ⌝ }
     ensures { λ r. ⌜ PutAll (now (table .entry)) nodes (now (counts .entry)) (now (list .entry)) many r (now (rows .entry)) (now (rows .exit)) (now (arcs .entry)) (now (arcs .exit)) ⌝ }
 {
-    let mut found = [0u16; 2048];
+    let mut found = [0u16; field::PLACE_LIMIT];
     put_searched(
         table,
         nodes,
@@ -52,8 +65,8 @@ fn put_large(
     requires { ⌜ Putable (now table) nodes (now counts) (now list) many (now rows) (now arcs) ⌝ }
     ensures { λ r. ⌜ PutAll (now (table .entry)) nodes (now (counts .entry)) (now (list .entry)) many r (now (rows .entry)) (now (rows .exit)) (now (arcs .entry)) (now (arcs .exit)) ⌝ }
 {
-    let mut lists = [0u16; 16384];
-    let mut index = [0u16; 1024];
+    let mut lists = [0u16; field::ARC_LIMIT];
+    let mut index = [0u16; 4 * field::ACTION_LIMIT];
     if spread(table, nodes, counts, &mut lists, &mut index) {
         return put_listed(&lists, &index, list, many, rows, arcs);
     }
@@ -83,11 +96,11 @@ fn put_wide(
     requires { ⌜ Putable (now table) nodes (now counts) (now list) many (now rows) (now arcs) ⌝ }
     ensures { λ r. ⌜ PutAll (now (table .entry)) nodes (now (counts .entry)) (now (list .entry)) many r (now (rows .entry)) (now (rows .exit)) (now (arcs .entry)) (now (arcs .exit)) ⌝ }
 {
-    if 4096 < arcs.len() {
+    if WIDE_ARCS < arcs.len() {
         return put_large(table, nodes, counts, list, many, rows, arcs);
     }
-    let mut lists = [0u16; 4096];
-    let mut index = [0u16; 1024];
+    let mut lists = [0u16; WIDE_ARCS];
+    let mut index = [0u16; 4 * field::ACTION_LIMIT];
     if spread(table, nodes, counts, &mut lists, &mut index) {
         return put_listed(&lists, &index, list, many, rows, arcs);
     }
@@ -107,11 +120,11 @@ fn put_middle(
     requires { ⌜ Putable (now table) nodes (now counts) (now list) many (now rows) (now arcs) ⌝ }
     ensures { λ r. ⌜ PutAll (now (table .entry)) nodes (now (counts .entry)) (now (list .entry)) many r (now (rows .entry)) (now (rows .exit)) (now (arcs .entry)) (now (arcs .exit)) ⌝ }
 {
-    if 1024 < arcs.len() {
+    if MIDDLE_ARCS < arcs.len() {
         return put_wide(table, nodes, counts, list, many, rows, arcs);
     }
-    let mut lists = [0u16; 1024];
-    let mut index = [0u16; 256];
+    let mut lists = [0u16; MIDDLE_ARCS];
+    let mut index = [0u16; 4 * MIDDLE_TRANSITIONS];
     if spread(table, nodes, counts, &mut lists, &mut index) {
         return put_listed(&lists, &index, list, many, rows, arcs);
     }
@@ -131,11 +144,11 @@ pub fn put_transitions(
     requires { ⌜ Putable (now table) nodes (now counts) (now list) many (now rows) (now arcs) ⌝ }
     ensures { λ r. ⌜ PutAll (now (table .entry)) nodes (now (counts .entry)) (now (list .entry)) many r (now (rows .entry)) (now (rows .exit)) (now (arcs .entry)) (now (arcs .exit)) ⌝ }
 {
-    if 256 < arcs.len() {
+    if SMALL_ARCS < arcs.len() {
         return put_middle(table, nodes, counts, list, many, rows, arcs);
     }
-    let mut lists = [0u16; 256];
-    let mut index = [0u16; 64];
+    let mut lists = [0u16; SMALL_ARCS];
+    let mut index = [0u16; 4 * SMALL_TRANSITIONS];
     if spread(table, nodes, counts, &mut lists, &mut index) {
         return put_listed(&lists, &index, list, many, rows, arcs);
     }

@@ -17,9 +17,6 @@ ghost use Rattle.arcs.specs.declared.moves.Side.the-variants.{Inputs, Outputs};
 ghost use Rattle.tables.specs.Rows.{item-at, listed-at, listed-from, Put, PutArcs, PutSide};
 ghost use Rattle.tables.specs.Lists.{told-at, list-at, Inside, item-places, ItemInside, listed-transition};
 
-// No second action.
-pub const NONE: usize = 65535;
-
 // Where the inputs of a transition end in the arcs, and where its outputs end.
 pub struct Ends {
     pub middle: usize,
@@ -88,7 +85,7 @@ fn put_side(
     requires { ⌜ ItemInside (now lists) (now index) (item-of first second) × (first ≤ 65535) × (second ≤ 65535) × (at ≤ length (now arcs)) × (length (now arcs) ≤ 16384) ⌝ }
     ensures { λ r. ⌜ PutSide (length (now (arcs .entry))) r at (item-places (now (lists .entry)) (now (index .entry)) side (item-of first second)) (now (arcs .entry)) (now (arcs .exit)) ⌝ }
 {
-    if second == NONE {
+    if second == field::NO_SECOND {
         return put_one(list_of(lists, index, side, first), arcs, at);
     }
     let places = list_of(lists, index, side, first);

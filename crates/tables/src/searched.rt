@@ -1,7 +1,6 @@
 // The places of a transition's actions, searched for one transition after another: for plans whose actions have more places together than
 // the lists hold, though their transitions, which lose actions to scopes, have not.
 use crate::copying::put;
-use crate::rows::NONE;
 use crate::rows::put_transition;
 use arcs::arcs_of_action;
 use arcs::moves::Side;
@@ -16,13 +15,16 @@ ghost use Rattle.arcs.specs.Asked.{Asked, Of};
 ghost use Rattle.tables.specs.Rows.{item-at, Putable, PutAll};
 ghost use Rattle.tables.specs.Lists.{ItemPlaces, Below, Lists};
 
+// Behind the two lists of a transition's first action, each with room for all places, stand those of its second.
+const SECOND_LISTS: usize = 2 * field::PLACE_LIMIT;
+
 // The places of an action, found in an array and put into the lists from a place on, with what the index tells of them.
 fn list_action(
     table: &[u16],
     nodes: usize,
     counts: &[u16],
     i: usize,
-    found: &mut [u16; 2048],
+    found: &mut [u16; field::PLACE_LIMIT],
     lists: &mut [u16],
     at: usize,
     index: &mut [u16],
@@ -33,8 +35,13 @@ fn list_action(
     let inputs = arcs_of_action(table, nodes, counts, i, Side::Inputs, found);
     put(lists, at, found, inputs);
     let outputs = arcs_of_action(table, nodes, counts, i, Side::Outputs, found);
-    put(lists, at + 2048, found, outputs);
-    let row = [at as u16, inputs as u16, (at + 2048) as u16, outputs as u16];
+    put(lists, at + field::PLACE_LIMIT, found, outputs);
+    let row = [
+        at as u16,
+        inputs as u16,
+        (at + field::PLACE_LIMIT) as u16,
+        outputs as u16,
+    ];
     put(index, 4 * i, &row, 4);
 }
 
@@ -45,7 +52,7 @@ fn list_item(
     counts: &[u16],
     list: &[u16],
     t: usize,
-    found: &mut [u16; 2048],
+    found: &mut [u16; field::PLACE_LIMIT],
     lists: &mut [u16],
     index: &mut [u16],
 )
@@ -55,10 +62,19 @@ fn list_item(
     let first = wide(list[3 * t + 1]);
     let second = wide(list[3 * t + 2]);
     list_action(table, nodes, counts, first, found, lists, 0, index);
-    if second == NONE {
+    if second == field::NO_SECOND {
         return;
     }
-    list_action(table, nodes, counts, second, found, lists, 4096, index);
+    list_action(
+        table,
+        nodes,
+        counts,
+        second,
+        found,
+        lists,
+        SECOND_LISTS,
+        index,
+    );
 }
 
 // All transitions of the list, the lists made anew for each.
@@ -68,7 +84,7 @@ pub fn put_searched(
     counts: &[u16],
     list: &[u16],
     many: usize,
-    found: &mut [u16; 2048],
+    found: &mut [u16; field::PLACE_LIMIT],
     lists: &mut [u16],
     index: &mut [u16],
     rows: &mut [u16],

@@ -29,8 +29,7 @@ use plan::tags::TAG;
 // and no scope takes a pair away.
 pub const MOST: usize = field::ACTION_LIMIT + field::TRANSITION_LIMIT;
 
-// "second action or 65,535"
-pub const NO_SECOND: u16 = 65535;
+const NO_SECOND: u16 = field::NO_SECOND as u16;
 
 // How many transitions are listed; or there are too many; or the list has too little room to tell.
 pub enum Listed {

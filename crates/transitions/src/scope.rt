@@ -36,7 +36,13 @@ pub fn put(list: &mut [u16], t: usize, label: u16, first: u16, second: u16)
 }
 
 // The first actions of the transitions with a label, in their order, and how many they are. They are single actions, so 256 places do.
-fn gather(list: &[u16], start: usize, end: usize, label: usize, found: &mut [u16; 256]) -> usize
+fn gather(
+    list: &[u16],
+    start: usize,
+    end: usize,
+    label: usize,
+    found: &mut [u16; field::ACTION_LIMIT],
+) -> usize
     requires { ⌜ (start ≤ 1280) × (end ≤ 1280) ⌝ }
     ensures { λ r. ⌜ ((ts : List Labelled) → Part (now (list .entry)) start end ts → length (firsts label ts) ≤ 256 → Found r (now (found .exit)) (firsts label ts)) ⌝ }
 {
@@ -83,7 +89,7 @@ fn join_one(
     rows: &[u16],
     k: usize,
     i: u16,
-    others: &[u16; 256],
+    others: &[u16; field::ACTION_LIMIT],
     count: usize,
     list: &mut [u16],
     room: usize,
@@ -115,9 +121,9 @@ fn join_one(
 fn join(
     rows: &[u16],
     k: usize,
-    left: &[u16; 256],
+    left: &[u16; field::ACTION_LIMIT],
     lefts: usize,
-    right: &[u16; 256],
+    right: &[u16; field::ACTION_LIMIT],
     rights: usize,
     list: &mut [u16],
     room: usize,
@@ -144,8 +150,8 @@ fn join(
     Filling::Many(so_far)
 }
 
-fn none_found() -> [u16; 256] {
-    [0u16; 256]
+fn none_found() -> [u16; field::ACTION_LIMIT] {
+    [0u16; field::ACTION_LIMIT]
 }
 
 // Closes the scope of node k, whose operand's transitions stand in the list from `start` to `end`.
