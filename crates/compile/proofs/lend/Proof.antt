@@ -11,28 +11,10 @@ use Rattle.compile.proofs.CompileCall.{IsMade, made-of, plan-refused, t
 use Rattle.compile.proofs.lend.Statement.{statement}
 use Rattle.compile.proofs.lend.Tie as tie
 
-enum-known-built : tie.Need-enum-known-built
-enum-known-built c = search needs
-
-enum-told : tie.Need-enum-told
-enum-told c = search needs
-
-enum-known-built-2 : tie.Need-enum-known-built-2
-enum-known-built-2 c = search needs
-
 tables-reach-requires : tie.Need-tables-reach-requires
 tables-reach-requires c κs =
     let s = c .before .before .before .before .before .before .before .before .before .before .before in
     made-of (s .pre .plan) (s .args .built) _ _ (s .pre .is) (c .before .before .before .before .built2 .given .1) .few-transitions
-
-same-length : tie.Need-same-length
-same-length c = search needs
-
-same-length-2 : tie.Need-same-length-2
-same-length-2 c = search needs
-
-same-length-3 : tie.Need-same-length-3
-same-length-3 c = search needs
 
 returns : tie.Need-returns
 returns c =
@@ -77,15 +59,6 @@ returns-3 c =
     let a = c .before .before .before .before .before .before .before .args in
     λ plan b. untouched plan (a .built) (lent (a .kinds .now) (a .rows .now) (a .arcs .now)) (ap found-room (c .enum-told .given .1))
 
-same-length-4 : tie.Need-same-length-4
-same-length-4 c = search needs
-
-same-length-5 : tie.Need-same-length-5
-same-length-5 c = search needs
-
-same-length-6 : tie.Need-same-length-6
-same-length-6 c = search needs
-
 returns-4 : tie.Need-returns-4
 returns-4 c =
     let s = c .before .before .before .before .before .before .before .before .before .before .before .before .before .before .before .before .before .before .before .before .before .before .before in
@@ -101,20 +74,20 @@ pub lend-spec : {M : Type 1} → statement M
 lend-spec =
     tie.close
     (tie.spec
-    enum-known-built
-    enum-told
-    enum-known-built-2
+    (λ c. search needs)
+    (λ c. search needs)
+    (λ c. search needs)
     tables-reach-requires
-    same-length
-    same-length-2
-    same-length-3
+    (λ c. search needs)
+    (λ c. search needs)
+    (λ c. search needs)
     returns
     sub-write-tables
     sub-write-tables-2
     write-tables-requires
     returns-2
     returns-3
-    same-length-4
-    same-length-5
-    same-length-6
+    (λ c. search needs)
+    (λ c. search needs)
+    (λ c. search needs)
     returns-4)

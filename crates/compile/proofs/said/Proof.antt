@@ -6,15 +6,6 @@ use borrow.Author.Needs.{needs}
 use Rattle.compile.proofs.said.Statement.{statement}
 use Rattle.compile.proofs.said.Tie as tie
 
-enum-known-built : tie.Need-enum-known-built
-enum-known-built c = search needs
-
-enum-told : tie.Need-enum-told
-enum-told c = search needs
-
-enum-known-built-2 : tie.Need-enum-known-built-2
-enum-known-built-2 c = search needs
-
 returns : tie.Need-returns
 returns c = sym (ap built-says (c .before .built .given .1))
 
@@ -26,4 +17,4 @@ returns-3 c = sym (ap built-says (c .before .built2 .given .1))
 
 pub said-spec : {M : Type 1} → statement M
 said-spec =
-    tie.close (tie.spec enum-known-built enum-told enum-known-built-2 returns returns-2 returns-3)
+    tie.close (tie.spec (λ c. search needs) (λ c. search needs) (λ c. search needs) returns returns-2 returns-3)

@@ -12,9 +12,6 @@ returns c =
     let a = c .before .before .args in
     (tt, header-cut (a .s .now) (a .at) (a .actions) (c .if1 .taken))
 
-shared-slice-read-tag : tie.Need-shared-slice-read-tag
-shared-slice-read-tag c = search needs
-
 returns-2 : tie.Need-returns-2
 returns-2 c =
     let a = c .before .before .before .before .args in
@@ -25,17 +22,11 @@ returns-3 c =
     let a = c .before .before .before .before .before .args in
     (tt, tag-high (a .s .now) (a .at) (a .actions) (c .before .before .before .if1 .left) (c .if3 .taken))
 
-shared-slice-read-len : tie.Need-shared-slice-read-len
-shared-slice-read-len c = search needs
-
 cast-len : tie.Need-cast-len
 cast-len c = omega (arith, c .shared-slice-known3 .given 1, c .shared-slice-known3 .given 2)
 
 mul-len : tie.Need-mul-len
 mul-len c = omega (arith, c .shared-slice-known3 .given 1, c .shared-slice-known3 .given 2)
-
-shared-slice-read-len-2 : tie.Need-shared-slice-read-len-2
-shared-slice-read-len-2 c = search needs
 
 cast-len-2 : tie.Need-cast-len-2
 cast-len-2 c = omega (arith, c .shared-slice-known4 .given 1, c .shared-slice-known4 .given 2)
@@ -43,17 +34,11 @@ cast-len-2 c = omega (arith, c .shared-slice-known4 .given 1, c .shared-slice-kn
 add-len : tie.Need-add-len
 add-len c = omega (arith, c .shared-slice-known4 .given 1, c .shared-slice-known4 .given 2)
 
-sub-if4 : tie.Need-sub-if4
-sub-if4 c = search needs
-
 returns-4 : tie.Need-returns-4
 returns-4 c =
     let b = c .before .before .before .before in
     let a = b .before .before .before .before .args in
     (tt, length-cut (a .s .now) (a .at) (a .actions) (b .before .before .if1 .left) (b .if2 .left) (c .before .before .before .if3 .left) (omega arith))
-
-look-action-requires : tie.Need-look-action-requires
-look-action-requires c κs = search needs
 
 returns-5 : tie.Need-returns-5
 returns-5 c =
@@ -63,9 +48,6 @@ returns-5 c =
       body-head (a .s .now) (a .at) (a .actions) (b .if1 .left) (c .before .before .if4 .left) action-tag (c .look-action .result) (c .before .if5 .taken)
           (c .look-action .ensures .1),
     )
-
-look-scope-requires : tie.Need-look-scope-requires
-look-scope-requires c κs = search needs
 
 returns-6 : tie.Need-returns-6
 returns-6 c =
@@ -97,20 +79,20 @@ look-spec =
     tie.close
     (tie.spec
     returns
-    shared-slice-read-tag
+    (λ c. search needs)
     returns-2
     returns-3
-    shared-slice-read-len
+    (λ c. search needs)
     cast-len
     mul-len
-    shared-slice-read-len-2
+    (λ c. search needs)
     cast-len-2
     add-len
-    sub-if4
+    (λ c. search needs)
     returns-4
-    look-action-requires
+    (λ c κs. search needs)
     returns-5
-    look-scope-requires
+    (λ c κs. search needs)
     returns-6
     returns-7
     returns-8)

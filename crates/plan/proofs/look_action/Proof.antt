@@ -10,9 +10,6 @@ returns c =
     let a = c .before .args in
     (tt, λ read. action-wrong-body (a .s .now) (a .at) (a .len) (a .actions) (c .before .pre) read (c .if1 .taken))
 
-shared-slice-read-label : tie.Need-shared-slice-read-label
-shared-slice-read-label c = search needs
-
 returns-2 : tie.Need-returns-2
 returns-2 c =
     let b = c .before .before .before in
@@ -40,4 +37,4 @@ returns-4 c =
     )
 
 pub look-action-spec : {M : Type 1} → statement M
-look-action-spec = tie.close (tie.spec returns shared-slice-read-label returns-2 returns-3 returns-4)
+look-action-spec = tie.close (tie.spec returns (λ c. search needs) returns-2 returns-3 returns-4)

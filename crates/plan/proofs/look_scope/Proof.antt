@@ -10,9 +10,6 @@ returns c =
     let a = c .before .args in
     (tt, λ read. scope-wrong-body (a .s .now) (a .at) (a .len) (a .actions) (c .before .pre) read (c .if1 .taken))
 
-shared-slice-read-name : tie.Need-shared-slice-read-name
-shared-slice-read-name c = search needs
-
 returns-2 : tie.Need-returns-2
 returns-2 c =
     let b = c .before .before .before in
@@ -25,9 +22,6 @@ returns-3 c =
     let a = b .args in
     (tt, scope-high (a .s .now) (a .at) (a .len) (a .actions) (b .pre) (c .before .before .before .if1 .left) (omega arith))
 
-sub-t9 : tie.Need-sub-t9
-sub-t9 c = search needs
-
 returns-4 : tie.Need-returns-4
 returns-4 c =
     let b = c .before .before .before .before in
@@ -37,4 +31,4 @@ returns-4 c =
     )
 
 pub look-scope-spec : {M : Type 1} → statement M
-look-scope-spec = tie.close (tie.spec returns shared-slice-read-name returns-2 returns-3 sub-t9 returns-4)
+look-scope-spec = tie.close (tie.spec returns (λ c. search needs) returns-2 returns-3 (λ c. search needs) returns-4)

@@ -12,15 +12,6 @@ use borrow.Author.Needs.{needs}
 use Rattle.replay.proofs.replay_built.Statement.{statement}
 use Rattle.replay.proofs.replay_built.Tie as tie
 
-enum-known-built : tie.Need-enum-known-built
-enum-known-built c = search needs
-
-enum-told : tie.Need-enum-told
-enum-told c = search needs
-
-enum-known-built-2 : tie.Need-enum-known-built-2
-enum-known-built-2 c = search needs
-
 replay-net-requires : tie.Need-replay-net-requires
 replay-net-requires c κs =
     let s = c .before .before .before .before .before .before .before .before in
@@ -36,9 +27,6 @@ returns-2 : tie.Need-returns-2
 returns-2 c =
     λ plan b room. absurd (let e : false ≡ true = sym (ap found-room (c .enum-told .given .1)) ∙ room in let z : _≡_ {A = ℕ} 0 1 = cc in omega arith)
 
-same-length : tie.Need-same-length
-same-length c = search needs
-
 returns-3 : tie.Need-returns-3
 returns-3 c =
     let a = c .before .before .before .before .before .before .before .before .before .before .before .args in
@@ -51,11 +39,11 @@ pub replay-built-spec : {M : Type 1} → statement M
 replay-built-spec =
     tie.close
     (tie.spec
-    enum-known-built
-    enum-told
-    enum-known-built-2
+    (λ c. search needs)
+    (λ c. search needs)
+    (λ c. search needs)
     replay-net-requires
     returns
     returns-2
-    same-length
+    (λ c. search needs)
     returns-3)

@@ -13,19 +13,10 @@ use borrow.Author.Needs.{needs}
 use Rattle.replay.proofs.replay_net.Statement.{statement}
 use Rattle.replay.proofs.replay_net.Tie as tie
 
-has-room-requires : tie.Need-has-room-requires
-has-room-requires c κs = search needs
-
-same-length : tie.Need-same-length
-same-length c = search needs
-
 returns : tie.Need-returns
 returns c N h =
     let a = c .before .before .before .before .before .before .before .args in
     no-room N (a .places) (h .its-places) (a .«record» .now) (a .marking .now) (c .before .has-room .result) (c .before .has-room .ensures) (not-true (c .before .has-room .result) (c .if1 .taken))
-
-same-length-2 : tie.Need-same-length-2
-same-length-2 c = search needs
 
 returns-2 : tie.Need-returns-2
 returns-2 c N h =
@@ -50,9 +41,6 @@ run-from-entries-requires c κs =
     let part = length-take-le (a .places) (a .marking .now) (reaches (a .places) (a .marking .now) (c .before .before .before .has-room .result) (c .before .before .before .has-room .ensures) (not-false (c .before .before .before .has-room .result) (c .before .before .if1 .left))) in
     (subst (InOrder (a .rows .now) (a .arcs .now) (a .transitions)) (sym part) (s .pre .0), subst (λ n. a .entries + a .internals ≤ n) (sym part) (s .pre .1))
 
-same-length-3 : tie.Need-same-length-3
-same-length-3 c = search needs
-
 returns-3 : tie.Need-returns-3
 returns-3 c N h =
     let a = c .before .before .before .before .before .before .before .before .before .before .before .before .args in
@@ -67,13 +55,13 @@ pub replay-net-spec : {M : Type 1} → statement M
 replay-net-spec =
     tie.close
     (tie.spec
-    has-room-requires
-    same-length
+    (λ c κs. search needs)
+    (λ c. search needs)
     returns
-    same-length-2
+    (λ c. search needs)
     returns-2
     slice-relend-prefix-run-from-entries
     slice-aggregate-run-from-entries
     run-from-entries-requires
-    same-length-3
+    (λ c. search needs)
     returns-3)

@@ -6,15 +6,6 @@ use Rattle.compile.specs.Built.{found-room}
 use Rattle.compile.proofs.building.found_room.Statement.{statement}
 use Rattle.compile.proofs.building.found_room.Tie as tie
 
-enum-told : tie.Need-enum-told
-enum-told c = search needs
-
-enum-told-2 : tie.Need-enum-told-2
-enum-told-2 c = search needs
-
-enum-told-3 : tie.Need-enum-told-3
-enum-told-3 c = search needs
-
 returns : tie.Need-returns
 returns c = sym (ap found-room (c .enum-told .given .1))
 
@@ -26,4 +17,4 @@ returns-3 c = sym (ap found-room (c .enum-told3 .given .1))
 
 pub found-room-spec : {M : Type 1} → statement M
 found-room-spec =
-    tie.close (tie.spec enum-told enum-told-2 enum-told-3 returns returns-2 returns-3)
+    tie.close (tie.spec (λ c. search needs) (λ c. search needs) (λ c. search needs) returns returns-2 returns-3)

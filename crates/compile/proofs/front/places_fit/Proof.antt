@@ -9,30 +9,6 @@ use borrow.Author.Needs.{needs}
 use Rattle.compile.proofs.front.places_fit.Statement.{statement}
 use Rattle.compile.proofs.front.places_fit.Tie as tie
 
-number-at-requires : tie.Need-number-at-requires
-number-at-requires c κs = search needs
-
-wide-requires : tie.Need-wide-requires
-wide-requires c κs = search needs
-
-number-at-requires-2 : tie.Need-number-at-requires-2
-number-at-requires-2 c κs = search needs
-
-wide-requires-2 : tie.Need-wide-requires-2
-wide-requires-2 c κs = search needs
-
-number-at-requires-3 : tie.Need-number-at-requires-3
-number-at-requires-3 c κs = search needs
-
-wide-requires-3 : tie.Need-wide-requires-3
-wide-requires-3 c κs = search needs
-
-add-result : tie.Need-add-result
-add-result c = search needs
-
-add-result-2 : tie.Need-add-result-2
-add-result-2 c = search needs
-
 returns : tie.Need-returns
 returns c =
     let s = c .before .before .before .before .before .before .before .args .counts .now in
@@ -44,12 +20,12 @@ pub places-fit-spec : {M : Type 1} → statement M
 places-fit-spec =
     tie.close
     (tie.spec
-    number-at-requires
-    wide-requires
-    number-at-requires-2
-    wide-requires-2
-    number-at-requires-3
-    wide-requires-3
-    add-result
-    add-result-2
+    (λ c κs. search needs)
+    (λ c κs. search needs)
+    (λ c κs. search needs)
+    (λ c κs. search needs)
+    (λ c κs. search needs)
+    (λ c κs. search needs)
+    (λ c. search needs)
+    (λ c. search needs)
     returns)

@@ -9,21 +9,6 @@ use borrow.Author.Needs.{needs}
 use Rattle.tables.proofs.kinds.write_kinds.Statement.{statement}
 use Rattle.tables.proofs.kinds.write_kinds.Tie as tie
 
-write-run-requires : tie.Need-write-run-requires
-write-run-requires c κs = search needs
-
-write-run-requires-2 : tie.Need-write-run-requires-2
-write-run-requires-2 c κs = search needs
-
-add-write-run : tie.Need-add-write-run
-add-write-run c = search needs
-
-write-run-requires-3 : tie.Need-write-run-requires-3
-write-run-requires-3 c κs = search needs
-
-same-length : tie.Need-same-length
-same-length c = search needs
-
 returns : tie.Need-returns
 returns c =
     let r1 = c .before .before .before .before .before .before .before .before .before .before .write-run in
@@ -37,9 +22,9 @@ pub write-kinds-spec : {M : Type 1} → statement M
 write-kinds-spec =
     tie.close
     (tie.spec
-    write-run-requires
-    write-run-requires-2
-    add-write-run
-    write-run-requires-3
-    same-length
+    (λ c κs. search needs)
+    (λ c κs. search needs)
+    (λ c. search needs)
+    (λ c κs. search needs)
+    (λ c. search needs)
     returns)
