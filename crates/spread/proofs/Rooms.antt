@@ -265,6 +265,31 @@ module _ (before : List ℕ) (at count left step : ℕ) (some : 0 < left) where
         long = g .long;
       }
 
+-- One number is repeated: the number written last is at hand.
+pub record RepeatingOne (before : List ℕ) (at left step : ℕ) (out : List ℕ) (p k : ℕ) : Type 0 where
+  pub so-far : Repeating before at 1 left step out k
+  pub last : p ≡ getD out (at + k - 1) 0
+  pub small : p ≤ 65535
+
+module _ (before : List ℕ) (at left step : ℕ) (some : 0 < left) (fits : at + left ≤ length before) where
+  fits-all : at + left * 1 ≤ length before
+  fits-all = omega (arith, mul-one left)
+
+  pub one-start : (p : ℕ) → p ≡ getD before at 0 → p ≤ 65535 → RepeatingOne before at left step before p 1
+  one-start p e small = record { so-far = repeat-start before at 1 left step some; last = e ∙ ap (λ i. getD before i 0) (omega arith); small = small }
+
+  pub one-step : (out : List ℕ) (p k : ℕ) → k < left → p + step ≤ 65535 → RepeatingOne before at left step out p k → RepeatingOne before at left step (set out (at + k) (p + step)) (p + step) (k + 1)
+  one-step out p k l small g =
+      let e : at + (k + 1) - 1 ≡ at + k = omega arith in
+      record {
+        so-far = repeat-step before at 1 left step some out k p (omega (arith, mul-one left)) fits-all (g .last) (g .so-far);
+        last = sym (ap (λ i. getD (set out (at + k) (p + step)) i 0) e ∙ getD-set-same out (at + k) (p + step) 0 (omega (arith, g .so-far .long)));
+        small = small;
+      }
+
+  pub one-done : (out : List ℕ) (p k : ℕ) → left ≤ k → RepeatingOne before at left step out p k → Changes before out at 1 left (repeated left step)
+  one-done out p k z g = subst (λ n. Changes before out at 1 n (repeated left step)) (mul-one left) (repeat-done before at 1 left step some out k (omega (arith, mul-one left)) fits-all (g .so-far))
+
 -- ---- one change after another
 pub none-made : (before after : List ℕ) (at count r : ℕ) (f : List ℕ → List ℕ) → r ≡ 0 → Changes before after at count r f
 none-made before after at count r f e ps w s some = absurd (omega arith)

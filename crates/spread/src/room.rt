@@ -85,6 +85,28 @@ fn stretch(room: &mut [u16], at: usize, count: usize, right: usize, off: usize) 
     total
 }
 
+// One position `left` times, each time `step` more. The number written last is at hand and is not read back from the room.
+fn repeat_one(room: &mut [u16], at: usize, left: usize, step: usize) -> usize
+    requires { ⌜ Within (now room) at 1 × (0 < left) × (left ≤ 65535) × (step ≤ 65535) ⌝ }
+    ensures fits { λ r. ⌜ Fits (now (room .entry)) (now (room .exit)) at r ⌝ }
+    ensures changes { λ r. ⌜ Changes (now (room .entry)) (now (room .exit)) at 1 r (repeated left step) ⌝ }
+{
+    if room.len() < at + left {
+        return 0;
+    }
+    let mut p = wide(room[at]);
+    let mut k = 1;
+    while k < left {
+        p += step;
+        if LARGEST < p {
+            return 0;
+        }
+        room[at + k] = p as u16;
+        k += 1;
+    }
+    left
+}
+
 // The positions `left` times: each is `step` more than the one `count` places before it.
 fn repeat(room: &mut [u16], at: usize, count: usize, left: usize, step: usize) -> usize
     requires { ⌜ Within (now room) at count × (left ≤ 65535) × (step ≤ 65535) ⌝ }
@@ -93,6 +115,9 @@ fn repeat(room: &mut [u16], at: usize, count: usize, left: usize, step: usize) -
 {
     if left == 0 {
         return 0;
+    }
+    if count == 1 {
+        return repeat_one(room, at, left, step);
     }
     let total = left * count;
     if room.len() < at + total {

@@ -2,9 +2,10 @@
 -- Assumes nothing.
 use Prim.Native.Nat.{_-_, _≤_}
 use native.Mathlib.Omega.{arith}
-use mathlib.Core.Path.{refl}
+use mathlib.Core.Path.{refl, sym, subst}
 use borrow.Author.Needs.{needs}
 use Rattle.arcs.specs.Positions.{repeated}
+use Rattle.spread.specs.Room.{Within, Changes}
 use Rattle.spread.proofs.Rooms.{product-fits, Repeating, repeat-start, repeat-step, repeat-done, none-made}
 use Rattle.spread.proofs.room.repeat.Statement.{statement}
 use Rattle.spread.proofs.room.repeat.Tie as tie
@@ -15,90 +16,60 @@ Inv-loop room₀ at count left step total k₀ room k = Repeating room₀ at cou
 abbrev μ-loop : tie.MeasureT-loop
 μ-loop room₀ at count left step total k₀ room k = total - k
 
-mul-total : tie.Need-mul-total Inv-loop μ-loop
-mul-total c =
-    let s = c .before .before in
-    let b : s .args .count ≤ 65535 = omega (arith, s .pre .0 .inside, s .pre .0 .most) in
-    omega (arith, product-fits (s .pre .1) b)
-
-add-if2 : tie.Need-add-if2 Inv-loop μ-loop
-add-if2 c =
-    let s = c .before .before in
-    let b : s .args .count ≤ 65535 = omega (arith, s .pre .0 .inside, s .pre .0 .most) in
-    omega (arith, product-fits (s .pre .1) b, s .pre .0 .inside, s .pre .0 .most)
-
 returns : tie.Need-returns Inv-loop μ-loop
 returns c =
     let s = c .before .before in
     let a = s .args in
     (record { long = refl; inside = omega (arith, s .pre .0 .inside) }, none-made (a .room .now) (a .room .now) (a .at) (a .count) 0 (repeated (a .left) (a .step)) refl)
 
+repeat-one-requires : tie.Need-repeat-one-requires Inv-loop μ-loop
+repeat-one-requires c κs =
+    let s = c .before .before .before .before in
+    let a = s .args in
+    (subst (Within (a .room .now) (a .at)) (c .before .if2 .taken) (s .pre .0), omega arith, s .pre .1, s .pre .2)
+
 returns-2 : tie.Need-returns-2 Inv-loop μ-loop
 returns-2 c =
+    let a = c .before .before .before .before .before .before .before .args in
+    let o = c .before .before .repeat-one in
+    (o .ensures .0, subst (λ n. Changes (a .room .now) (o .last .0) (a .at) n (o .result) (repeated (a .left) (a .step))) (sym (c .before .before .before .before .if2 .taken)) (o .ensures .1))
+
+mul-total : tie.Need-mul-total Inv-loop μ-loop
+mul-total c =
     let s = c .before .before .before in
+    let b : s .args .count ≤ 65535 = omega (arith, s .pre .0 .inside, s .pre .0 .most) in
+    omega (arith, product-fits (s .pre .1) b)
+
+add-if3 : tie.Need-add-if3 Inv-loop μ-loop
+add-if3 c =
+    let s = c .before .before .before in
+    let b : s .args .count ≤ 65535 = omega (arith, s .pre .0 .inside, s .pre .0 .most) in
+    omega (arith, product-fits (s .pre .1) b, s .pre .0 .inside, s .pre .0 .most)
+
+returns-3 : tie.Need-returns-3 Inv-loop μ-loop
+returns-3 c =
+    let s = c .before .before .before .before in
     let a = s .args in
     (record { long = refl; inside = omega (arith, s .pre .0 .inside) }, none-made (a .room .now) (a .room .now) (a .at) (a .count) 0 (repeated (a .left) (a .step)) refl)
 
 loop-holds : tie.Need-loop-holds Inv-loop μ-loop
-loop-holds c = let a = c .before .before .before .args in repeat-start (a .room .now) (a .at) (a .count) (a .left) (a .step) (omega arith)
-
-add-wide : tie.Need-add-wide Inv-loop μ-loop
-add-wide c = omega (arith, c .before .before .before .before .before .pre .0 .most)
-
-sub-wide : tie.Need-sub-wide Inv-loop μ-loop
-sub-wide c = omega (arith, c .before .loop .inv .from)
-
-mul-wide : tie.Need-mul-wide Inv-loop μ-loop
-mul-wide c = omega (arith, c .before .before .before .before .before .pre .0 .most)
-
-slice-read-wide : tie.Need-slice-read-wide Inv-loop μ-loop
-slice-read-wide c = omega (arith, c .before .before .loop .inv .long, c .before .before .loop .inv .from)
-
-add-if3 : tie.Need-add-if3 Inv-loop μ-loop
-add-if3 c = omega (arith, c .wide .ensures .1, c .before .before .before .before .before .before .before .pre .2)
-
-same-length : tie.Need-same-length Inv-loop μ-loop
-same-length c = c .before .before .before .before .loop .inv .long
-
-returns-3 : tie.Need-returns-3 Inv-loop μ-loop
-returns-3 c =
-    let s = c .before .before .before .before .before .before .before .before in
-    let a = s .args in
-    (record { long = c .before .before .before .before .loop .inv .long; inside = omega (arith, s .pre .0 .inside) }, none-made (a .room .now) _ (a .at) (a .count) 0 (repeated (a .left) (a .step)) refl)
-
-add-room : tie.Need-add-room Inv-loop μ-loop
-add-room c = omega arith
-
-cast-room : tie.Need-cast-room Inv-loop μ-loop
-cast-room c = omega arith
-
-add-room-2 : tie.Need-add-room-2 Inv-loop μ-loop
-add-room-2 c = omega (arith, c .before .before .before .before .before .before .before .before .pre .0 .most)
-
-mul-room : tie.Need-mul-room Inv-loop μ-loop
-mul-room c = omega (arith, c .before .before .before .before .before .before .before .before .pre .0 .most)
-
-slice-write-room : tie.Need-slice-write-room Inv-loop μ-loop
-slice-write-room c = omega (arith, c .before .before .before .before .loop .inv .long)
-
-add-k : tie.Need-add-k Inv-loop μ-loop
-add-k c = omega (arith, c .before .before .before .before .before .before .before .before .pre .0 .most)
-
-loop-less : tie.Need-loop-less Inv-loop μ-loop
-loop-less c = omega arith
-
-loop-again : tie.Need-loop-again Inv-loop μ-loop
-loop-again c =
-    let a = c .before .before .before .before .before .before .before .before .args in
-    let l = c .before .before .before .before .loop in
-    repeat-step (a .room .now) (a .at) (a .count) (a .left) (a .step) (omega arith) (l .room) (l .k) _ (c .before .before .before .loop-test .taken) (omega arith) (c .before .wide .ensures .0) (l .inv)
-
-same-length-2 : tie.Need-same-length-2 Inv-loop μ-loop
-same-length-2 c = c .before .loop .inv .long
+loop-holds c = let a = c .before .before .before .before .args in repeat-start (a .room .now) (a .at) (a .count) (a .left) (a .step) (omega arith)
 
 returns-4 : tie.Need-returns-4 Inv-loop μ-loop
 returns-4 c =
-    let a = c .before .before .before .before .before .args in
+    let s = c .before .before .before .before .before .before .before .before .before in
+    let a = s .args in
+    (record { long = c .before .before .before .before .loop .inv .long; inside = omega (arith, s .pre .0 .inside) }, none-made (a .room .now) _ (a .at) (a .count) 0 (repeated (a .left) (a .step)) refl)
+
+loop-again : tie.Need-loop-again Inv-loop μ-loop
+loop-again c =
+    let a = c .before .before .before .before .before .before .before .before .before .args in
+    let l = c .before .before .before .before .loop in
+    repeat-step (a .room .now) (a .at) (a .count) (a .left) (a .step) (omega arith) (l .room) (l .k) _ (c .before .before .before .loop-test .taken) (omega arith) (c .before .wide .ensures .0) (l .inv)
+
+returns-5 : tie.Need-returns-5 Inv-loop μ-loop
+returns-5 c =
+    let a = c .before .before .before .before .before .before .args in
     let l = c .before .loop in (
       record { long = l .inv .long; inside = omega arith },
       repeat-done (a .room .now) (a .at) (a .count) (a .left) (a .step) (omega arith) (l .room) (l .k) (c .loop-test .left) (omega arith) (l .inv),
@@ -107,5 +78,32 @@ returns-4 c =
 pub repeat-spec : {M : Type 1} → statement M
 repeat-spec =
     tie.close
-    (tie.spec Inv-loop μ-loop returns mul-total add-if2 returns-2 loop-holds add-wide sub-wide mul-wide slice-read-wide (λ c κs. search needs) add-if3 same-length returns-3 add-room cast-room add-room-2
-    mul-room slice-write-room add-k loop-less loop-again same-length-2 returns-4)
+    (tie.spec
+    Inv-loop
+    μ-loop
+    returns
+    repeat-one-requires
+    (λ c. search needs)
+    returns-2
+    mul-total
+    add-if3
+    returns-3
+    loop-holds
+    (λ c. omega (arith, c .before .before .before .before .before .before .pre .0 .most))
+    (λ c. omega (arith, c .before .loop .inv .from))
+    (λ c. omega (arith, c .before .before .before .before .before .before .pre .0 .most))
+    (λ c. omega (arith, c .before .before .loop .inv .long, c .before .before .loop .inv .from))
+    (λ c κs. search needs)
+    (λ c. omega (arith, c .wide .ensures .1, c .before .before .before .before .before .before .before .before .pre .2))
+    (λ c. c .before .before .before .before .loop .inv .long)
+    returns-4
+    (λ c. omega arith)
+    (λ c. omega arith)
+    (λ c. omega (arith, c .before .before .before .before .before .before .before .before .before .pre .0 .most))
+    (λ c. omega (arith, c .before .before .before .before .before .before .before .before .before .pre .0 .most))
+    (λ c. omega (arith, c .before .before .before .before .loop .inv .long))
+    (λ c. omega (arith, c .before .before .before .before .before .before .before .before .before .pre .0 .most))
+    (λ c. omega arith)
+    loop-again
+    (λ c. c .before .loop .inv .long)
+    returns-5)
