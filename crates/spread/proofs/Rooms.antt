@@ -265,26 +265,32 @@ module _ (before : List ℕ) (at count left step : ℕ) (some : 0 < left) where
         long = g .long;
       }
 
--- One number is repeated: the number written last is at hand.
+-- One number is repeated: the number written last is at hand, and with all the steps that are left it fits.
 pub record RepeatingOne (before : List ℕ) (at left step : ℕ) (out : List ℕ) (p k : ℕ) : Type 0 where
   pub so-far : Repeating before at 1 left step out k
   pub last : p ≡ getD out (at + k - 1) 0
-  pub small : p ≤ 65535
+  pub fits : p + (left - k) * step ≤ 65535
 
 module _ (before : List ℕ) (at left step : ℕ) (some : 0 < left) (fits : at + left ≤ length before) where
   fits-all : at + left * 1 ≤ length before
   fits-all = omega (arith, mul-one left)
 
-  pub one-start : (p : ℕ) → p ≡ getD before at 0 → p ≤ 65535 → RepeatingOne before at left step before p 1
-  one-start p e small = record { so-far = repeat-start before at 1 left step some; last = e ∙ ap (λ i. getD before i 0) (omega arith); small = small }
+  pub one-start : (p : ℕ) → p ≡ getD before at 0 → p + (left - 1) * step ≤ 65535 → RepeatingOne before at left step before p 1
+  one-start p e top = record { so-far = repeat-start before at 1 left step some; last = e ∙ ap (λ i. getD before i 0) (omega arith); fits = top }
 
-  pub one-step : (out : List ℕ) (p k : ℕ) → k < left → p + step ≤ 65535 → RepeatingOne before at left step out p k → RepeatingOne before at left step (set out (at + k) (p + step)) (p + step) (k + 1)
-  one-step out p k l small g =
+  -- One step more is one less of those that are left.
+  pub one-less : (p k : ℕ) → k < left → p + (left - k) * step ≡ p + step + (left - (k + 1)) * step
+  one-less p k l =
+      let e : left - k ≡ suc (left - (k + 1)) = omega arith in
+      omega (arith, ap (λ n. n * step) e, suc-mul (left - (k + 1)) step)
+
+  pub one-step : (out : List ℕ) (p k : ℕ) → k < left → RepeatingOne before at left step out p k → RepeatingOne before at left step (set out (at + k) (p + step)) (p + step) (k + 1)
+  one-step out p k l g =
       let e : at + (k + 1) - 1 ≡ at + k = omega arith in
       record {
         so-far = repeat-step before at 1 left step some out k p (omega (arith, mul-one left)) fits-all (g .last) (g .so-far);
         last = sym (ap (λ i. getD (set out (at + k) (p + step)) i 0) e ∙ getD-set-same out (at + k) (p + step) 0 (omega (arith, g .so-far .long)));
-        small = small;
+        fits = omega (arith, g .fits, one-less p k l);
       }
 
   pub one-done : (out : List ℕ) (p k : ℕ) → left ≤ k → RepeatingOne before at left step out p k → Changes before out at 1 left (repeated left step)

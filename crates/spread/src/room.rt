@@ -85,7 +85,7 @@ fn stretch(room: &mut [u16], at: usize, count: usize, right: usize, off: usize) 
     total
 }
 
-// One position `left` times, each time `step` more. The number written last is at hand and is not read back from the room.
+// One position `left` times, each time `step` more. That the last one fits is asked beforehand, and no number is read back from the room.
 fn repeat_one(room: &mut [u16], at: usize, left: usize, step: usize) -> usize
     requires { ⌜ Within (now room) at 1 × (0 < left) × (left ≤ 65535) × (step ≤ 65535) ⌝ }
     ensures fits { λ r. ⌜ Fits (now (room .entry)) (now (room .exit)) at r ⌝ }
@@ -95,12 +95,12 @@ fn repeat_one(room: &mut [u16], at: usize, left: usize, step: usize) -> usize
         return 0;
     }
     let mut p = wide(room[at]);
+    if LARGEST < p + (left - 1) * step {
+        return 0;
+    }
     let mut k = 1;
     while k < left {
         p += step;
-        if LARGEST < p {
-            return 0;
-        }
         room[at + k] = p as u16;
         k += 1;
     }
