@@ -271,6 +271,15 @@ pub record RepeatingOne (before : List ℕ) (at left step : ℕ) (out : List ℕ
   pub last : p ≡ getD out (at + k - 1) 0
   pub fits : p + (left - k) * step ≤ 65535
 
+-- One step more is one less of those that are left, and so it fits.
+one-less : (left step p k : ℕ) → k < left → p + (left - k) * step ≡ p + step + (left - (k + 1)) * step
+one-less left step p k l =
+    let e : left - k ≡ suc (left - (k + 1)) = omega arith in
+    omega (arith, ap (λ n. n * step) e, suc-mul (left - (k + 1)) step)
+
+pub next-fits : {before out : List ℕ} {at left step p k : ℕ} → RepeatingOne before at left step out p k → k < left → p + step ≤ 65535
+next-fits {left = left} {step = step} {p = p} {k = k} g l = omega (arith, g .fits, one-less left step p k l)
+
 module _ (before : List ℕ) (at left step : ℕ) (some : 0 < left) (fits : at + left ≤ length before) where
   fits-all : at + left * 1 ≤ length before
   fits-all = omega (arith, mul-one left)
@@ -278,19 +287,13 @@ module _ (before : List ℕ) (at left step : ℕ) (some : 0 < left) (fits : at +
   pub one-start : (p : ℕ) → p ≡ getD before at 0 → p + (left - 1) * step ≤ 65535 → RepeatingOne before at left step before p 1
   one-start p e top = record { so-far = repeat-start before at 1 left step some; last = e ∙ ap (λ i. getD before i 0) (omega arith); fits = top }
 
-  -- One step more is one less of those that are left.
-  pub one-less : (p k : ℕ) → k < left → p + (left - k) * step ≡ p + step + (left - (k + 1)) * step
-  one-less p k l =
-      let e : left - k ≡ suc (left - (k + 1)) = omega arith in
-      omega (arith, ap (λ n. n * step) e, suc-mul (left - (k + 1)) step)
-
   pub one-step : (out : List ℕ) (p k : ℕ) → k < left → RepeatingOne before at left step out p k → RepeatingOne before at left step (set out (at + k) (p + step)) (p + step) (k + 1)
   one-step out p k l g =
       let e : at + (k + 1) - 1 ≡ at + k = omega arith in
       record {
         so-far = repeat-step before at 1 left step some out k p (omega (arith, mul-one left)) fits-all (g .last) (g .so-far);
         last = sym (ap (λ i. getD (set out (at + k) (p + step)) i 0) e ∙ getD-set-same out (at + k) (p + step) 0 (omega (arith, g .so-far .long)));
-        fits = omega (arith, g .fits, one-less p k l);
+        fits = omega (arith, g .fits, one-less left step p k l);
       }
 
   pub one-done : (out : List ℕ) (p k : ℕ) → left ≤ k → RepeatingOne before at left step out p k → Changes before out at 1 left (repeated left step)

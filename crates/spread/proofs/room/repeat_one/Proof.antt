@@ -5,7 +5,7 @@ use native.Mathlib.Omega.{arith}
 use mathlib.Core.Path.{refl}
 use borrow.Author.Needs.{needs}
 use Rattle.arcs.specs.Positions.{repeated}
-use Rattle.spread.proofs.Rooms.{product-fits, RepeatingOne, one-start, one-less, one-step, one-done, none-made}
+use Rattle.spread.proofs.Rooms.{product-fits, RepeatingOne, one-start, next-fits, one-step, one-done, none-made}
 use Rattle.spread.proofs.room.repeat_one.Statement.{statement}
 use Rattle.spread.proofs.room.repeat_one.Tie as tie
 
@@ -45,20 +45,6 @@ loop-holds c =
     let a = s .args in
     one-start (a .room .now) (a .at) (a .left) (a .step) (s .pre .1) (omega arith) _ (c .before .wide .ensures .0) (omega arith)
 
-add-p : tie.Need-add-p Inv-loop μ-loop
-add-p c =
-    let s = c .before .before .before .before .before .before .before in
-    let a = s .args in
-    let l = c .before .loop in
-    omega (arith, l .inv .fits, one-less (a .room .now) (a .at) (a .left) (a .step) (s .pre .1) (omega arith) (l .p) (l .k) (c .loop-test .taken))
-
-cast-room : tie.Need-cast-room Inv-loop μ-loop
-cast-room c =
-    let s = c .before .before .before .before .before .before .before in
-    let a = s .args in
-    let l = c .before .loop in
-    omega (arith, l .inv .fits, one-less (a .room .now) (a .at) (a .left) (a .step) (s .pre .1) (omega arith) (l .p) (l .k) (c .loop-test .taken))
-
 loop-again : tie.Need-loop-again Inv-loop μ-loop
 loop-again c =
     let s = c .before .before .before .before .before .before .before in
@@ -89,8 +75,8 @@ repeat-one-spec =
     add-if2
     returns-2
     loop-holds
-    add-p
-    cast-room
+    (λ c. omega (arith, next-fits (c .before .loop .inv) (c .loop-test .taken)))
+    (λ c. omega (arith, next-fits (c .before .loop .inv) (c .loop-test .taken)))
     (λ c. omega (arith, c .before .before .before .before .before .before .before .pre .0 .most))
     (λ c. omega (arith, c .before .before .before .before .before .before .before .pre .0 .most))
     (λ c. omega (arith, c .before .loop .inv .so-far .long))
