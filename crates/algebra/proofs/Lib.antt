@@ -33,6 +33,7 @@ pub mod StepsByItems
 pub mod ListedIsDerivable
 pub mod Marks
 pub mod ItemFlows
+pub mod JoinedApart
 pub mod FiringIsDerived
 pub mod RecordsAgree
 pub mod Agreement

@@ -1,19 +1,14 @@
 -- What the calls ask is met by the tables of every expression whose places are within the limit, and by what the counting of the nodes leaves.
 -- True because the node table and the counts are as long as their nodes say, so the beginnings of the tables are the whole lists.
-use Prim.Native.Nat.{ℕ, _*_, _≤_}
-use native.Mathlib.Omega.{arith}
-use mathlib.Core.Path.{_≡_, refl, sym, _∙_, ap}
+use Prim.Native.Nat.{ℕ, _*_}
+use mathlib.Core.Path.{_≡_, sym, _∙_, ap}
 use mathlib.Core.List.{List, _++_}
 use lib.ListN.{length, take}
-use lib.Seq.{take-all, take-at}
-use Rattle.field.specs.Limits.{place-limit}
+use lib.Seq.{take-at}
 use Rattle.algebra.specs.Expr.{Expr}
-use Rattle.algebra.specs.Item.{Item}
-use Rattle.algebra.specs.Places.{places}
 use Rattle.plan.specs.Nodes.{node-count, node-table}
 use Rattle.plan.proofs.NodeTable.{rows-length}
 use Rattle.boxes.specs.NodeCounts.{node-counts}
-use Rattle.arcs.specs.Asked.{Acts, Of}
 use Rattle.arcs.proofs.Sizes.{values-length}
 
 counts-length : (E : Expr) → length (node-counts E) ≡ 3 * node-count E
@@ -23,14 +18,6 @@ counts-length E = values-length E
 pub table-length : (E : Expr) → length (node-table E) ≡ 6 * node-count E
 unfolding node-table
 table-length E = rows-length 0 0 0 E
-
-pub tables-meet : (E : Expr) (item : Item) → length (places 0 E) ≤ place-limit → Acts item E → Of (node-table E) (node-count E) (node-counts E) item E
-tables-meet E item few acts = record {
-  table = record { nodes = refl; rows-of = take-all (6 * node-count E) (node-table E) (omega (arith, table-length E)) };
-  counted = take-all (3 * node-count E) (node-counts E) (omega (arith, counts-length E));
-  few = few;
-  acts = acts;
-}
 
 -- As the counting of the nodes leaves them: the counts in front, and what was there behind them.
 pub counted-in-front : (E : Expr) (nodes : ℕ) (rest : List ℕ) → nodes ≡ node-count E → take (3 * nodes) (node-counts E ++ rest) ≡ node-counts E

@@ -1,13 +1,13 @@
 pub mod MoveTold
 pub mod Positions
-pub mod Widens
-pub mod ByTag
+pub mod Spreading
 pub mod Merges
 pub mod Ones
 pub mod Levels
 pub mod Boxes
 pub mod Sizes
 pub mod Children
-pub mod Searches
 pub mod Transitions
 pub mod AskedMet
+pub mod Leads
+pub mod SpreadsFit

@@ -6,7 +6,7 @@ use native.Mathlib.Numerals.{add-one}
 use native.Mathlib.Nat.{add-zero, add-suc}
 use mathlib.Core.Path.{_≡_, refl, sym, _∙_, ap, ap₂}
 use mathlib.Core.Bool.{Bool, true, false, cond, _||_}
-use mathlib.Core.List.{List, [], _∷_, _++_, append-nil}
+use mathlib.Core.List.{List, [], _∷_, _++_}
 use lib.ListN.{length, getD, take, drop, set, length-append, length-drop, take-append-drop, drop-of-length-le}
 use lib.Dec.{ltb}
 use lib.Seq.{sets, length-sets, length-take-le, take-suc, drop-cons, drop-drop, getD-drop, take-all, take-set-le, drop-set-add}
@@ -235,17 +235,3 @@ part l i = take (length l - i) (drop i l)
 
 pub part-is : (l : List ℕ) (i : ℕ) → part l i ≡ drop i l
 part-is l i = take-all (length l - i) (drop i l) (omega (arith, length-drop i l))
-
-pub sets-part : (n : ℕ) (out l : List ℕ) → take n out ++ (sets (part out n) 0 l ++ drop (length out - n) (drop n out)) ≡ sets out n l
-sets-part n out l =
-    let none : drop (length out - n) (drop n out) ≡ [] = drop-of-length-le (drop n out) {i = length out - n} (omega (arith, length-drop n out)) in
-    let behind : sets (part out n) 0 l ≡ drop n (sets out n l) = ap (λ m. sets m 0 l) (part-is out n) ∙ sym (sets-behind n out 0 l) ∙ ap (λ k. drop n (sets out k l)) (add-zero n) in
-    ap₂ (λ x y. take n out ++ (x ++ y)) behind none
-    ∙ ap₂ (λ x y. x ++ y) (sym (sets-front n out n l (omega arith))) (append-nil (drop n (sets out n l)))
-    ∙ take-append-drop n (sets out n l)
-
--- The whole, where a merge was into its part from n on.
-pub merged-part : (n : ℕ) (out : List ℕ) {r : ℕ} {l after : List ℕ} → Merged (length (part out n)) r l (part out n) after → r ≤ length out - n
-    → take n out ++ (after ++ drop (length out - n) (drop n out)) ≡ sets out n l
-merged-part n out {r} {l} {after} w h =
-    ap (λ m. take n out ++ (m ++ drop (length out - n) (drop n out))) (w .written (omega (arith, ap length (part-is out n), length-drop n out))) ∙ sets-part n out l

@@ -22,9 +22,6 @@ product-fits {a} {b} p q = let z : a * b ≤ 65535 * 65535 = mul-le-mul p q in o
 pub products-fit : {a b : ℕ} → a ≤ 65535 → b ≤ 4294836225 → a * b ≤ 281462092005375
 products-fit {a} {b} p q = let z : a * b ≤ 65535 * 4294836225 = mul-le-mul p q in omega arith
 
-pub kind-told : {A : Type 0} {kind k : Kind} {r : A} (f : Kind → A) → kind ≡ k → r ≡ f k → r ≡ f kind
-kind-told f p e = e ∙ sym (ap f p)
-
 pub products-fit′ : {a b : ℕ} → a ≤ 4294836225 → b ≤ 65535 → a * b ≤ 281462092005375
 products-fit′ {a} {b} p q = let z : a * b ≤ 4294836225 * 65535 = mul-le-mul p q in omega arith
 

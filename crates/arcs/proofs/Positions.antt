@@ -3,7 +3,7 @@
 use Prim.Native.Nat.{ℕ, zero, suc, _+_, _*_, _-_, _≤_, _<_}
 use native.Mathlib.Omega.{arith}
 use native.Mathlib.Decide.{decLt}
-use native.Mathlib.Nat.{suc-mul, zero-mul}
+use native.Mathlib.Nat.{suc-mul, zero-mul, mul-le-mul}
 use mathlib.Core.Path.{_≡_, refl, sym, _∙_, ap}
 use mathlib.Core.List.{List, [], _∷_, _++_, map}
 use lib.ListN.{length, getD, length-append, length-map, List·getD-append}
@@ -89,3 +89,14 @@ module _ (step : ℕ) (ps : List ℕ) where
   repeated-next (suc left) j h =
       let b : j < length (repeated left step ps) = omega (arith, length-append ps (more (repeated left step ps)), length-map (repeated left step ps) (λ q. q + step)) in
       behind (repeated left step ps) j b ∙ ap (λ q. q + step) (sym (repeated-more left j b))
+
+  -- Copy a of position j.
+  pub repeated-at : (left a j : ℕ) → a < left → j < length ps → getD (repeated left step ps) (a * length ps + j) 0 ≡ getD ps j 0 + a * step
+  repeated-at left zero j h l =
+      let e : 0 * length ps + j ≡ j = omega (arith, zero-mul (length ps)) in
+      ap (λ i. getD (repeated left step ps) i 0) e ∙ repeated-first left j (omega arith) l ∙ omega (arith, zero-mul step)
+  repeated-at left (suc a) j h l =
+      let e : suc a * length ps + j ≡ length ps + (a * length ps + j) = omega (arith, suc-mul a (length ps)) in
+      let m : suc (suc a) * length ps ≤ left * length ps = mul-le-mul h (omega arith) in
+      ap (λ i. getD (repeated left step ps) i 0) e ∙ repeated-next left (a * length ps + j) (omega (arith, repeated-length left, m, suc-mul (suc a) (length ps), suc-mul a (length ps)))
+      ∙ ap (λ x. x + step) (repeated-at left a j (omega arith) l) ∙ omega (arith, suc-mul a step)

@@ -1,6 +1,5 @@
 pub mod Positions
 pub mod Moves
-pub mod Widen
-pub mod Search
+pub mod Spreads
+pub mod Nodes
 pub mod Merge
-pub mod Asked

@@ -102,12 +102,6 @@ loop-move Third Entry e f g = move Internal (e .exits * f .exits * f .entries) 1
 loop-move Third Internal e f g = shift Internal (e .internals + f .internals)
 loop-move Third Exit e f g = shift Exit 0
 
--- "Final numbers: entries from 0, then internals, then exits": where a list begins among all places.
-abbrev pub base : Kind → Counts → ℕ
-base Entry c = 0
-base Internal c = c .entries
-base Exit c = c .entries + c .internals
-
 -- Each count is a number of 16 bits.
 pub record Small (c : Counts) : Type 0 where
   pub entries : c .entries ≤ 65535

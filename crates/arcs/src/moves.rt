@@ -1,7 +1,7 @@
 // 01, "Box construction", read upwards: how the positions of places in one list of an operand become positions in a list of the whole.
 ghost use mathlib.Core.Path.{_≡_};
 ghost use Prim.Native.Nat.{_+_, _*_};
-ghost use Rattle.arcs.specs.Moves.{own, move, shift, sequence-move, choice-move, parallel-move, loop-move, base, Small};
+ghost use Rattle.arcs.specs.Moves.{move, shift, sequence-move, choice-move, parallel-move, loop-move, Small};
 
 // Which places of a transition are asked for.
 pub enum Side {
@@ -37,16 +37,6 @@ pub struct Move {
     pub right: usize,
     pub step: usize,
     pub off: usize,
-}
-
-// An action's own box: its input place is its entry, its output place its exit.
-pub fn own_list(side: Side) -> Kind
-    ensures { λ r. ⌜ r ≡ own side ⌝ }
-{
-    match side {
-        Side::Inputs => Kind::Entry,
-        Side::Outputs => Kind::Exit,
-    }
 }
 
 fn make(kind: Kind, left: usize, right: usize, step: usize, off: usize) -> Move
@@ -147,17 +137,5 @@ pub fn of_loop(operand: Operand, kind: Kind, e: Counts, f: Counts, g: Counts) ->
             Kind::Internal => shifted(Kind::Internal, e.internals + f.internals),
             Kind::Exit => shifted(Kind::Exit, 0),
         },
-    }
-}
-
-// "Final numbers: entries from 0, then internals, then exits": the number of a list's first place.
-pub fn base_of(kind: Kind, c: Counts) -> usize
-    requires { ⌜ Small c ⌝ }
-    ensures { λ r. ⌜ r ≡ base kind c ⌝ }
-{
-    match kind {
-        Kind::Entry => 0,
-        Kind::Internal => c.entries,
-        Kind::Exit => c.entries + c.internals,
     }
 }

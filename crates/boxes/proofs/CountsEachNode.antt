@@ -116,18 +116,15 @@ one-more rows k before after room j =
           (stored-stands before k c (omega arith))));
     }
 
--- The same as the code has it, which counts the nodes that are left.
-turn : (rows before : List ℕ) {between after : List ℕ} {k : ℕ} {c : Counts} → (k ≡ 0 → ⊥) → 3 * k ≤ length before
-    → c ≡ counts-by rows before (k - 1) → between ≡ stored before (k - 1) c → Counted rows (k - 1) between after → Counted rows k before after
-turn rows before {between} {after} {k} {c} some room e s j =
-    let p : k - 1 + 1 ≡ k = omega arith in
-    subst (λ m. Counted rows m before after) p
-    (one-more rows (k - 1) before after (omega arith)
-    (subst (λ t. Counted rows (k - 1) t after) (s ∙ ap (stored before (k - 1)) e) j))
+-- The same of what the code stores.
+pub turn : (rows before : List ℕ) {between after : List ℕ} {k : ℕ} {c : Counts} → 3 * (k + 1) ≤ length before
+    → c ≡ counts-by rows before k → between ≡ stored before k c → Counted rows k between after → Counted rows (k + 1) before after
+turn rows before {between} {after} {k} {c} room e s j =
+    one-more rows k before after room (subst (λ t. Counted rows k t after) (s ∙ ap (stored before k) e) j)
 
-pub turn-to : (rows before : List ℕ) {between after : List ℕ} {low k : ℕ} {c : Counts} → (k ≡ 0 → ⊥) → low ≡ k - 1 → 3 * k ≤ length before
-    → c ≡ counts-by rows before (k - 1) → between ≡ stored before (k - 1) c → Counted rows low between after → Counted rows k before after
-turn-to rows before {between} {after} some e room f s j = turn rows before some room f s (subst (λ m. Counted rows m between after) e j)
+-- One number written in two ways.
+pub moved : {rows before after : List ℕ} {k m : ℕ} → k ≡ m → Counted rows k before after → Counted rows m before after
+moved {rows} {before} {after} e j = subst (λ n. Counted rows n before after) e j
 
 three : (E : Expr) → length (counts-of E) ≡ 3
 unfolding counts-of

@@ -2,6 +2,7 @@ pub mod KnownNets
 pub mod CountsCutOff
 pub mod LargeNets
 pub mod ArcsRise
+pub mod ArcsCounted
 pub mod PairsDiffer
 pub mod LabelsFit
 pub mod TablesAreANet

@@ -62,3 +62,7 @@ pub record Counted (rows : List ℕ) (k : ℕ) (before after : List ℕ) : Type 
   pub room : 3 * k ≤ length before
   pub kept : (i : ℕ) → 3 * k ≤ i → getD after i 0 ≡ getD before i 0
   pub known : (count : ℕ) → Known rows count 3 counts-of k before → Known rows count 3 counts-of 0 after
+
+-- The nodes from `low` to `high` are counted: whatever counts those below `low` from there counts all below `high`.
+abbrev pub CountsDown : List ℕ → ℕ → ℕ → List ℕ → List ℕ → Type 0
+CountsDown rows low high entry exit = (after : List ℕ) → Counted rows low exit after → Counted rows high entry after

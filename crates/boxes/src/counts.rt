@@ -11,15 +11,15 @@ use plan::tags::SCOPE;
 use plan::tags::SEQUENCE;
 use plan::tags::TAG;
 ghost use mathlib.Core.Path.{_≡_};
-ghost use mathlib.Core.List.{List, _++_};
-ghost use Prim.Native.Nat.{ℕ, _+_, _*_, _<_, _≤_};
+ghost use mathlib.Core.List.{_++_};
+ghost use Prim.Native.Nat.{_+_, _*_, _<_, _≤_};
 ghost use lib.ListN.{length, drop};
 ghost use Rattle.field.specs.Limits.{place-limit};
 ghost use Rattle.algebra.specs.Expr.{Expr};
 ghost use Rattle.plan.specs.Table.{Table};
 ghost use Rattle.boxes.specs.Counts.{cut};
 ghost use Rattle.boxes.specs.NodeCounts.{node-counts};
-ghost use Rattle.boxes.specs.Counted.{Small, counts-at, sequence-counts, choice-counts, parallel-counts, loop-counts, counts-by, stored, Counted};
+ghost use Rattle.boxes.specs.Counted.{Small, counts-at, sequence-counts, choice-counts, parallel-counts, loop-counts, counts-by, stored, CountsDown};
 
 // How many places of each kind a box has.
 pub struct Counts {
@@ -39,15 +39,23 @@ fn cut_off(n: usize) -> usize
     }
 }
 
-// The counts of node k, which has three numbers.
+// The counts of node k, which has three numbers. One test serves all three where they are there.
 fn counts_at(counts: &[u16], k: usize) -> Counts
     requires { ⌜ k ≤ 65536 ⌝ }
     ensures { λ r. ⌜ (r ≡ counts-at (now (counts .entry)) k) × Small r ⌝ }
 {
+    let at = 3 * k;
+    if at + 2 < counts.len() {
+        return Counts {
+            entries: wide(counts[at]),
+            internals: wide(counts[at + 1]),
+            exits: wide(counts[at + 2]),
+        };
+    }
     Counts {
-        entries: wide(number_at(counts, 3 * k)),
-        internals: wide(number_at(counts, 3 * k + 1)),
-        exits: wide(number_at(counts, 3 * k + 2)),
+        entries: wide(number_at(counts, at)),
+        internals: wide(number_at(counts, at + 1)),
+        exits: 0,
     }
 }
 
@@ -143,20 +151,42 @@ fn store(counts: &mut [u16], k: usize, c: Counts)
     counts[3 * k + 2] = c.exits as u16;
 }
 
-// Counts the nodes from `low` to `high`, the upper half before the lower, so that the node number falls and calls stay few inside each other.
-fn count(rows: &[u16], low: usize, high: usize, counts: &mut [u16])
-    requires { ⌜ (low < high) × (high ≤ 1366) × (3 * high ≤ length (now counts)) ⌝ }
-    ensures { λ _. ⌜ ((after : List ℕ) → Counted (now (rows .entry)) low (now (counts .exit)) after → Counted (now (rows .entry)) high (now (counts .entry)) after) ⌝ }
+// Counts node k.
+fn count_node(rows: &[u16], k: usize, counts: &mut [u16])
+    requires { ⌜ (k < 1366) × (3 * (k + 1) ≤ length (now counts)) ⌝ }
+    ensures { λ _. ⌜ CountsDown (now (rows .entry)) k (k + 1) (now (counts .entry)) (now (counts .exit)) ⌝ }
 {
-    if low + 1 == high {
-        let node = high - 1;
-        let c = counts_of(rows, node, counts);
-        store(counts, node, c);
+    let c = counts_of(rows, k, counts);
+    store(counts, k, c);
+}
+
+// Counts four nodes from k on, the last first.
+fn count_four(rows: &[u16], k: usize, counts: &mut [u16])
+    requires { ⌜ (k + 4 ≤ 1366) × (3 * (k + 4) ≤ length (now counts)) ⌝ }
+    ensures { λ _. ⌜ CountsDown (now (rows .entry)) k (k + 4) (now (counts .entry)) (now (counts .exit)) ⌝ }
+{
+    count_node(rows, k + 3, counts);
+    count_node(rows, k + 2, counts);
+    count_node(rows, k + 1, counts);
+    count_node(rows, k, counts);
+}
+
+// Counts the nodes below `high`, the node number falling, four to a call while there are as many: a call costs more than a node, and calls stay
+// few inside each other.
+fn count(rows: &[u16], high: usize, counts: &mut [u16])
+    requires { ⌜ (high ≤ 1366) × (3 * high ≤ length (now counts)) ⌝ }
+    ensures { λ _. ⌜ CountsDown (now (rows .entry)) 0 high (now (counts .entry)) (now (counts .exit)) ⌝ }
+{
+    if high == 0 {
         return;
     }
-    let middle = (low + high) / 2;
-    count(rows, middle, high, counts);
-    count(rows, low, middle, counts);
+    if high < 4 {
+        count_node(rows, high - 1, counts);
+        count(rows, high - 1, counts);
+        return;
+    }
+    count_four(rows, high - 4, counts);
+    count(rows, high - 4, counts);
 }
 
 // The counts of every node of the plan whose node table the rows begin with; what lies behind them is not written.
@@ -164,8 +194,5 @@ pub fn count_places(rows: &[u16], nodes: usize, counts: &mut [u16])
     requires { ⌜ (nodes ≤ 1366) × (3 * nodes ≤ length (now counts)) ⌝ }
     ensures { λ _. ⌜ ((E : Expr) → Table (now (rows .entry)) nodes E → now (counts .exit) ≡ node-counts E ++ drop (3 * nodes) (now (counts .entry))) ⌝ }
 {
-    if nodes == 0 {
-        return;
-    }
-    count(rows, 0, nodes, counts);
+    count(rows, nodes, counts);
 }

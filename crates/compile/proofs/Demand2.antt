@@ -12,7 +12,7 @@ use Rattle.plan.specs.Loops.{check-loops}
 use Rattle.net.specs.Tables.{tables-of, kinds-of, rows-of, arcs-of}
 use Rattle.boxes.specs.Counts.{check-size}
 use Rattle.boxes.specs.Compile.{Lent, counts-of, accept, check-lent, compile-net, compile, compiled}
-use Rattle.compile.specs.Built.{compiling-says, lent}
+use Rattle.compile.specs.Says.{compiling-says, lent}
 use Rattle.compile.specs.declared.Compiling.{Compiling}
 use Rattle.compile.specs.declared.Compiling.the-variants.{Refused}
 use Rattle.compile.proofs.Determined.{Allowed, said-once}

@@ -1,13 +1,11 @@
 -- The contract of `compile` determines its answer and all three tables afterwards: two results that it allows are equal.
 -- The contract equates all four with the definition, and no two answers of the code say the same.
 use Prim.Native.Nat.{ℕ}
-use native.Mathlib.Omega.{arith}
 use mathlib.Core.Path.{_≡_, refl, sym, _∙_, ap}
 use mathlib.Core.List.{List}
-use Rattle.field.specs.Answer.{Answer, good, refused}
 use Rattle.field.proofs.Answers.{good-same, good-not-refused}
 use Rattle.boxes.specs.Compile.{Counts, compile}
-use Rattle.compile.specs.Built.{compiling-says, lent}
+use Rattle.compile.specs.Says.{compiling-says, lent}
 use Rattle.compile.specs.declared.Compiling.{Compiling}
 use Rattle.compile.specs.declared.Compiling.the-variants.{Refused, Made}
 

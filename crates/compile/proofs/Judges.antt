@@ -17,7 +17,7 @@ use Rattle.algebra.specs.Expr.{Expr, action, sequence, choice, parallel, loop, 
 use Rattle.algebra.specs.Transitions.{transitions}
 use Rattle.plan.specs.Reading.{read-plan}
 use Rattle.plan.specs.Loops.{bytes, check-loops}
-use Rattle.plan.specs.Bytes.{named, encode}
+use Rattle.plan.specs.Bytes.{named}
 use Rattle.plan.specs.Nodes.{node-count, node-table, sizes-of}
 use Rattle.plan.specs.Says.{says, read-sizes, RowsAre}
 use Rattle.plan.specs.declared.PlanRead.{PlanRead}
@@ -30,7 +30,7 @@ use Rattle.plan.proofs.ReadBack.{encode-length}
 use Rattle.boxes.specs.Counts.{cut, entry-count, internal-count, exit-count, place-count, check-size}
 use Rattle.boxes.specs.NodeCounts.{counts-of, node-counts}
 use Rattle.boxes.specs.Compile.{accept}
-use Rattle.transitions.specs.Numbers.{flat, most, ListIs}
+use Rattle.transitions.specs.Numbers.{flat, Fits, ListIs}
 use Rattle.transitions.specs.declared.Listed.{Listed}
 use Rattle.transitions.specs.declared.Listed.the-variants.{Many, TooMany}
 use Rattle.compile.specs.Judged.{check-places, check-transitions, check-arcs, judge, judged}
@@ -74,27 +74,16 @@ transitions-many E h = ap (λ b. check b too-many-transitions 0) (leb-cut transi
 not-ready : {A : Type 0} {n c nodes many : ℕ} → judgement.Refused n c ≡ judgement.Ready nodes many → A
 not-ready e = absurd (let z : _≡_ {A = ℕ} 0 1 = cc in omega arith)
 
-many-few : (E : Expr) (long : ℕ) (list′ : List ℕ) → transition-limit < length (transitions 0 E) → Few E (judgement.Refused too-many-transitions 0) long list′
-many-few E long list′ h = record { says = ap (λ r. r >> good (ready-sizes E)) (sym (transitions-many E h)); lists = λ nodes many e. not-ready e }
-
 -- What the list's answer says of its length.
-module _ (E : Expr) (long : ℕ) (list′ : List ℕ) where
-  pub no-room-few : long < 3 * most → Few E judgement.NoRoom long list′
-  no-room-few h = record { says = h; lists = λ nodes many e. absurd (let z : _≡_ {A = ℕ} 0 1 = cc in omega arith) }
+module _ (E : Expr) (list′ : List ℕ) where
+  pub too-many-few : (r : Listed) → ListIs r (transitions 0 E) list′ → r ≡ TooMany → Few E (judgement.Refused too-many-transitions 0) list′
+  too-many-few r w e = record { says = ap (λ r. r >> good (ready-sizes E)) (sym (transitions-many E (subst (λ q. ListIs q (transitions 0 E) list′) e w))); lists = λ nodes many e. not-ready e }
 
-  pub too-many-few : (r : Listed) → ListIs r (transitions 0 E) list′ → r ≡ TooMany → Few E (judgement.Refused too-many-transitions 0) long list′
-  too-many-few r w e = many-few E long list′ (subst (λ q. ListIs q (transitions 0 E) list′) e w)
-
-  many-listed : (n : ℕ) (r : Listed) → ListIs r (transitions 0 E) list′ → r ≡ Many n → (n ≡ length (transitions 0 E)) × (take (3 * n) list′ ≡ flat (transitions 0 E))
-  many-listed n r w e = subst (λ q. ListIs q (transitions 0 E) list′) e w
-
-  pub over-few : (n : ℕ) (r : Listed) → ListIs r (transitions 0 E) list′ → r ≡ Many n → transition-limit < n → Few E (judgement.Refused too-many-transitions 0) long list′
-  over-few n r w e h = many-few E long list′ (omega (arith, many-listed n r w e .0))
-
-  pub listed-few : (n nodes : ℕ) (r : Listed) → ListIs r (transitions 0 E) list′ → r ≡ Many n → n ≤ transition-limit → nodes ≡ node-count E → Few E (judgement.Ready nodes n) long list′
+  pub listed-few : (n nodes : ℕ) (r : Listed) → Fits r → ListIs r (transitions 0 E) list′ → r ≡ Many n → nodes ≡ node-count E → Few E (judgement.Ready nodes n) list′
   unfolding ready-sizes
-  listed-few n nodes r w e h d =
-      let m = many-listed n r w e in
+  listed-few n nodes r f w e d =
+      let h : n ≤ transition-limit = subst Fits e f in
+      let m : (n ≡ length (transitions 0 E)) × (take (3 * n) list′ ≡ flat (transitions 0 E)) = subst (λ q. ListIs q (transitions 0 E) list′) e w in
       let c : check-transitions E ≡ good tt = transitions-few E (omega (arith, m .0)) in
       record {
         says = (λ i. good (record { nodes = d i; transitions = m .0 i })) ∙ ap (λ r. r >> good (ready-sizes E)) (sym c);
@@ -137,34 +126,34 @@ judge-same E F e =
     good-same E F h
 
 -- A refusal of the first or the second test.
-stops : (E : Expr) (n c : ℕ) (counts counts′ : List ℕ) (long : ℕ) (list′ : List ℕ) → judge E ≡ refused n c → Fine E (judgement.Refused n c) counts counts′ long list′
-stops E n c counts counts′ long list′ e = record { says = ap (λ r. r >>= λ F. good (ready-sizes F)) (sym e); written = λ nodes many g. not-ready g }
+stops : (E : Expr) (n c : ℕ) (counts counts′ list′ : List ℕ) → judge E ≡ refused n c → Fine E (judgement.Refused n c) counts counts′ list′
+stops E n c counts counts′ list′ e = record { says = ap (λ r. r >>= λ F. good (ready-sizes F)) (sym e); written = λ nodes many g. not-ready g }
 
-pub loops-stop : (E : Expr) (n c : ℕ) (counts counts′ : List ℕ) (long : ℕ) (list′ : List ℕ) → refused n c ≡ check-loops E → Fine E (judgement.Refused n c) counts counts′ long list′
-loops-stop E n c counts counts′ long list′ e = stops E n c counts counts′ long list′ (judge-by E (sym e) refl)
+pub loops-stop : (E : Expr) (n c : ℕ) (counts counts′ list′ : List ℕ) → refused n c ≡ check-loops E → Fine E (judgement.Refused n c) counts counts′ list′
+loops-stop E n c counts counts′ list′ e = stops E n c counts counts′ list′ (judge-by E (sym e) refl)
 
 then-sizes : (r : Answer (Unit {0})) (E : Expr) → (r >> good (ready-sizes E)) ≡ ((r >> good E) >>= λ F. good (ready-sizes F))
 then-sizes (good u) E = refl
 then-sizes (refused n c) E = refl
 
-module _ (E : Expr) (nodes : ℕ) (counts counts′ : List ℕ) (long : ℕ) (list′ : List ℕ) (loops : good tt ≡ check-loops E) (count : nodes ≡ node-count E)
+module _ (E : Expr) (nodes : ℕ) (counts counts′ list′ : List ℕ) (loops : good tt ≡ check-loops E) (count : nodes ≡ node-count E)
     (counted : counts′ ≡ node-counts E ++ drop (3 * nodes) counts) where
-  pub places-stop : fits counts′ ≡ false → Fine E (judgement.Refused too-many-places 0) counts counts′ long list′
+  pub places-stop : fits counts′ ≡ false → Fine E (judgement.Refused too-many-places 0) counts counts′ list′
   places-stop f =
-      stops E too-many-places 0 counts counts′ long list′
+      stops E too-many-places 0 counts counts′ list′
       (judge-by E (sym loops) (places-by E (drop (3 * nodes) counts) counted ∙ ap (λ b. check b too-many-places 0) f))
 
-  pub all-fine : fits counts′ ≡ true → (r : Judgement) → Few E r long list′ → Fine E r counts counts′ long list′
+  pub all-fine : fits counts′ ≡ true → (r : Judgement) → Few E r list′ → Fine E r counts counts′ list′
   all-fine f r w =
       let e : judge E ≡ (check-transitions E >> good E) =
       judge-by E (sym loops) (places-by E (drop (3 * nodes) counts) counted ∙ ap (λ b. check b too-many-places 0) f) in
       record {
-        says = subst (λ a. FrontSays r a long) (then-sizes (check-transitions E) E ∙ ap (λ a. a >>= λ F. good (ready-sizes F)) (sym e)) (w .says);
+        says = subst (λ a. FrontSays r a) (then-sizes (check-transitions E) E ∙ ap (λ a. a >>= λ F. good (ready-sizes F)) (sym e)) (w .says);
         written = λ n m g. (counted ∙ ap (λ n. node-counts E ++ drop (3 * n) counts) count, w .lists n m g);
       }
 
 -- A field takes 3 bytes at least.
-bytes-of-nodes : (E : Expr) → 3 * node-count E ≤ bytes E
+pub bytes-of-nodes : (E : Expr) → 3 * node-count E ≤ bytes E
 unfolding node-count bytes
 bytes-of-nodes (action l) = omega arith
 bytes-of-nodes (sequence E F) = omega (arith, bytes-of-nodes E, bytes-of-nodes F)
@@ -216,12 +205,12 @@ unread plan n c r s e = go (read-plan plan) (sym (ap says e) ∙ s)
     go (good E) f = good-not-refused _ _ n c refl (sym f)
     go (refused m d) f = let p : n ≡ m = cc in let q : c ≡ d = cc in λ i. refused (p i) (q i)
 
-module _ (plan : List ℕ) (nodes : ℕ) (table table′ counts counts′ : List ℕ) (long : ℕ) (list′ : List ℕ) (w : IsRead plan nodes table table′) where
-  pub front-answer : (r : Judgement) → Fine (w .expr) r counts counts′ long list′ → FrontSays r (ready plan) long
+module _ (plan : List ℕ) (nodes : ℕ) (table table′ counts counts′ list′ : List ℕ) (w : IsRead plan nodes table table′) where
+  pub front-answer : (r : Judgement) → Fine (w .expr) r counts counts′ list′ → FrontSays r (ready plan)
   unfolding judged
-  front-answer r fine = subst (λ a. FrontSays r a long) (ap (λ a. (a >>= judge) >>= λ E. good (ready-sizes E)) (sym (w .read))) (fine .says)
+  front-answer r fine = subst (λ a. FrontSays r a) (ap (λ a. (a >>= judge) >>= λ E. good (ready-sizes E)) (sym (w .read))) (fine .says)
 
-  ready-tables : (n m : ℕ) → Fine (w .expr) (judgement.Ready n m) counts counts′ long list′ → (a : Answer Expr) → judge (w .expr) ≡ a
+  ready-tables : (n m : ℕ) → Fine (w .expr) (judgement.Ready n m) counts counts′ list′ → (a : Answer Expr) → judge (w .expr) ≡ a
       → TablesAre (judgement.Ready n m) a table table′ counts counts′ list′
   ready-tables n m fine (refused k c) e = tt
   ready-tables n m fine (good F) e =
@@ -229,12 +218,11 @@ module _ (plan : List ℕ) (nodes : ℕ) (table table′ counts counts′ : List
       let (x, y) = fine .written n m refl in
       subst (λ E. TableIsOf E table table′ × CountsAreOf E counts counts′ × ListIsOf E list′) d (w .rows, x, y)
 
-  pub front-tables : (r : Judgement) → Fine (w .expr) r counts counts′ long list′ → TablesAre r (judged plan) table table′ counts counts′ list′
+  pub front-tables : (r : Judgement) → Fine (w .expr) r counts counts′ list′ → TablesAre r (judged plan) table table′ counts counts′ list′
   unfolding judged
   front-tables (judgement.Refused n c) fine = tt
   front-tables (judgement.Ready n m) fine =
       subst (λ a. TablesAre (judgement.Ready n m) (a >>= judge) table table′ counts counts′ list′) (sym (w .read)) (ready-tables n m fine (judge (w .expr)) refl)
-  front-tables judgement.NoRoom fine = tt
 
 -- What is left of the compile call's judgement: the test of the arcs.
 in-turn : (l p t : Answer (Unit {0})) (arcs : Expr → Answer (Unit {0})) (E : Expr)

@@ -1,3 +1,3 @@
 pub mod Judged
 pub mod Ready
-pub mod Built
+pub mod Says

@@ -1,6 +1,6 @@
 -- 01, "Where an answer is an enum, the promises use a definition that gives this paper's number and values for each of its cases":
 -- what the judgement's answer says, and the work tables that it leaves.
-use Prim.Native.Nat.{ℕ, _*_, _<_}
+use Prim.Native.Nat.{ℕ, _*_}
 use mathlib.Core.Path.{_≡_}
 use mathlib.Core.List.{List, _++_}
 use lib.ListN.{length, take, drop}
@@ -9,10 +9,10 @@ use Rattle.algebra.specs.Expr.{Expr}
 use Rattle.algebra.specs.Transitions.{transitions}
 use Rattle.plan.specs.Nodes.{node-count, node-table}
 use Rattle.boxes.specs.NodeCounts.{node-counts}
-use Rattle.transitions.specs.Numbers.{flat, most}
+use Rattle.transitions.specs.Numbers.{flat}
 use Rattle.compile.specs.Judged.{check-transitions, judge, judged}
 use Rattle.compile.specs.declared.front.Judgement.{Judgement}
-use Rattle.compile.specs.declared.front.Judgement.the-variants.{Refused, Ready, NoRoom}
+use Rattle.compile.specs.declared.front.Judgement.the-variants.{Refused, Ready}
 
 -- How many nodes and transitions a plan has.
 pub record Sizes : Type 0 where
@@ -23,11 +23,10 @@ unfoldable pub ready-sizes : Expr → Sizes
 unfolding node-count transitions
 ready-sizes E = record { nodes = node-count E; transitions = length (transitions 0 E) }
 
--- What the judgement says is the answer. Only a list of so many numbers that has not room for the most transitions can be too short to tell.
-abbrev pub FrontSays : Judgement → Answer Sizes → ℕ → Type 0
-FrontSays (Refused number carried) answer long = refused number carried ≡ answer
-FrontSays (Ready nodes transitions) answer long = good (record { nodes = nodes; transitions = transitions }) ≡ answer
-FrontSays NoRoom answer long = long < 3 * most
+-- What the judgement says is the answer.
+abbrev pub FrontSays : Judgement → Answer Sizes → Type 0
+FrontSays (Refused number carried) answer = refused number carried ≡ answer
+FrontSays (Ready nodes transitions) answer = good (record { nodes = nodes; transitions = transitions }) ≡ answer
 
 -- What is to be said: how many nodes and transitions the plan's expression has, or the refusal.
 abbrev pub ready : List ℕ → Answer Sizes
@@ -49,13 +48,12 @@ abbrev pub TablesAre : Judgement → Answer Expr → List ℕ → List ℕ → L
 TablesAre (Refused number carried) plan table table′ counts counts′ list′ = Unit {0}
 TablesAre (Ready nodes transitions) (good E) table table′ counts counts′ list′ = TableIsOf E table table′ × CountsAreOf E counts counts′ × ListIsOf E list′
 TablesAre (Ready nodes transitions) (refused number carried) table table′ counts counts′ list′ = Unit {0}
-TablesAre NoRoom plan table table′ counts counts′ list′ = Unit {0}
 
 -- What the two inner functions know of the expression that the table holds.
-pub record Few (E : Expr) (r : Judgement) (long : ℕ) (list′ : List ℕ) : Type 0 where
-  pub says : FrontSays r (check-transitions E >> good (ready-sizes E)) long
+pub record Few (E : Expr) (r : Judgement) (list′ : List ℕ) : Type 0 where
+  pub says : FrontSays r (check-transitions E >> good (ready-sizes E))
   pub lists : (nodes many : ℕ) → r ≡ Ready nodes many → ListIsOf E list′
 
-pub record Fine (E : Expr) (r : Judgement) (counts counts′ : List ℕ) (long : ℕ) (list′ : List ℕ) : Type 0 where
-  pub says : FrontSays r (judge E >>= λ F. good (ready-sizes F)) long
+pub record Fine (E : Expr) (r : Judgement) (counts counts′ list′ : List ℕ) : Type 0 where
+  pub says : FrontSays r (judge E >>= λ F. good (ready-sizes F))
   pub written : (nodes many : ℕ) → r ≡ Ready nodes many → CountsAreOf E counts counts′ × ListIsOf E list′

@@ -17,14 +17,14 @@ ghost use Rattle.field.specs.Limits.{plan-limit, place-limit};
 ghost use Rattle.algebra.specs.Expr.{Expr, actions};
 ghost use Rattle.plan.specs.Bytes.{named};
 ghost use Rattle.plan.specs.Table.{Table};
+ghost use Rattle.transitions.specs.Numbers.{most};
 ghost use Rattle.compile.specs.Judged.{judged};
 ghost use Rattle.compile.specs.Ready.{FrontSays, ready, TablesAre, Few, Fine};
 
-// The first refusal with what it carries; or how many nodes and transitions the plan has; or the list has too little room to tell.
+// The first refusal with what it carries; or how many nodes and transitions the plan has.
 pub enum Judgement {
     Refused(usize, usize),
     Ready { nodes: usize, transitions: usize },
-    NoRoom,
 }
 
 // 11: the counts of node 0, which is the whole plan. Each is at most one above the limit, and so is too large by itself where it is cut off.
@@ -37,31 +37,24 @@ fn places_fit(counts: &[u16]) -> bool
     entries + (internals + exits) <= field::PLACE_LIMIT
 }
 
-// 12: the list has room for more than the limit, since what a scope takes away is listed for a while.
+// 12.
 fn list_few(table: &[u16], nodes: usize, list: &mut [u16]) -> Judgement
-    requires { ⌜ (nodes ≤ 1366) × (6 * nodes ≤ length (now table)) ⌝ }
-    ensures { λ r. ⌜ ((E : Expr) → Table (now (table .entry)) nodes E → actions E ≤ 256 → T (named E) → Few E r (length (now (list .entry))) (now (list .exit))) ⌝ }
+    requires { ⌜ (nodes ≤ 1366) × (6 * nodes ≤ length (now table)) × (3 * most ≤ length (now list)) ⌝ }
+    ensures { λ r. ⌜ ((E : Expr) → Table (now (table .entry)) nodes E → actions E ≤ 256 → T (named E) → Few E r (now (list .exit))) ⌝ }
 {
     match list_transitions(table, nodes, list) {
-        Listed::NoRoom => Judgement::NoRoom,
         Listed::TooMany => Judgement::Refused(field::TOO_MANY_TRANSITIONS, 0),
-        Listed::Many(n) => {
-            if n <= field::TRANSITION_LIMIT {
-                Judgement::Ready {
-                    nodes: nodes,
-                    transitions: n,
-                }
-            } else {
-                Judgement::Refused(field::TOO_MANY_TRANSITIONS, 0)
-            }
-        }
+        Listed::Many(n) => Judgement::Ready {
+            nodes: nodes,
+            transitions: n,
+        },
     }
 }
 
 // What is asked of a plan that was read: 10, 11, 12.
 fn judge(table: &[u16], nodes: usize, counts: &mut [u16], list: &mut [u16]) -> Judgement
-    requires { ⌜ (nodes ≤ 1366) × (6 * nodes ≤ length (now table)) × (3 * nodes ≤ length (now counts)) ⌝ }
-    ensures { λ r. ⌜ ((E : Expr) → Table (now (table .entry)) nodes E → actions E ≤ 256 → T (named E) → Fine E r (now (counts .entry)) (now (counts .exit)) (length (now (list .entry))) (now (list .exit))) ⌝ }
+    requires { ⌜ (nodes ≤ 1366) × (6 * nodes ≤ length (now table)) × (3 * nodes ≤ length (now counts)) × (3 * most ≤ length (now list)) ⌝ }
+    ensures { λ r. ⌜ ((E : Expr) → Table (now (table .entry)) nodes E → actions E ≤ 256 → T (named E) → Fine E r (now (counts .entry)) (now (counts .exit)) (now (list .exit))) ⌝ }
 {
     match check_loops(table, nodes) {
         Loops::Faulty(at) => Judgement::Refused(field::BODY_NOT_EXCLUSIVE, at),
@@ -77,11 +70,11 @@ fn judge(table: &[u16], nodes: usize, counts: &mut [u16], list: &mut [u16]) -> J
 }
 
 // The judgement as far as 12. Where there is no refusal the three work tables begin with the plan's nodes, their counts of places, and
-// its transitions. A field takes 3 bytes at least, so two numbers of the table and one of the counts for each byte are room enough; how
-// many transitions there are is not known before they are listed.
+// its transitions. A field takes 3 bytes at least, so two numbers of the table and one of the counts for each byte are room enough.
 pub fn front(plan: &[u8], table: &mut [u16], counts: &mut [u16], list: &mut [u16]) -> Judgement
     requires { ⌜ (length (now plan) ≤ plan-limit → (2 * length (now plan) ≤ length (now table)) × (length (now plan) ≤ length (now counts))) ⌝ }
-    ensures answer { λ r. ⌜ FrontSays r (ready (now (plan .entry))) (length (now (list .entry))) ⌝ }
+    requires { ⌜ 3 * most ≤ length (now list) ⌝ }
+    ensures answer { λ r. ⌜ FrontSays r (ready (now (plan .entry))) ⌝ }
     ensures tables { λ r. ⌜ TablesAre r (judged (now (plan .entry))) (now (table .entry)) (now (table .exit)) (now (counts .entry)) (now (counts .exit)) (now (list .exit)) ⌝ }
 {
     match read_plan_in(plan, table) {

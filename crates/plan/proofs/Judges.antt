@@ -168,17 +168,19 @@ module _ (rows : List ℕ) (k : ℕ) (before after : List ℕ) (here : k < lengt
             ∙ ap (λ l. no-fault l >> rest) (sym (joined-last (fault-by rows after) k));
       }
 
--- The same as the code has it, which counts the nodes that are left.
-pub turn : (rows before after : List ℕ) {k v : ℕ} {rest own found answer : Answer (Unit {0})} → (k ≡ 0 → ⊥) → k ≤ length before
-    → v ≡ exclusive-by rows before (k - 1) → own ≡ no-fault (fault-by rows (set before (k - 1) v) (k - 1)) → found ≡ (own >> rest)
-    → Judged rows (k - 1) (set before (k - 1) v) after found answer → Judged rows k before after rest answer
-turn rows before after {k} {v} {rest} {own} {found} {answer} some fits e f g j =
-    let p : k - 1 + 1 ≡ k = omega arith in
-    let at : ℕ → List ℕ = λ w. set before (k - 1) w in
-    let q : found ≡ (no-fault (fault-by rows (at (exclusive-by rows before (k - 1))) (k - 1)) >> rest) = g ∙ ap (λ a. a >> rest) (f ∙ ap (λ w. no-fault (fault-by rows (at w) (k - 1))) e) in
-    let i : Judged rows (k - 1) (at (exclusive-by rows before (k - 1))) after found answer = subst (λ w. Judged rows (k - 1) (at w) after found answer) e j in
-    subst (λ m. Judged rows m before after rest answer) p
-    (one-more rows (k - 1) before after (omega arith) (subst (λ a. Judged rows (k - 1) (at (exclusive-by rows before (k - 1))) after a answer) q i))
+-- The same of what the code answers.
+pub turn : (rows before after : List ℕ) {k v : ℕ} {rest own found answer : Answer (Unit {0})} → k < length before
+    → v ≡ exclusive-by rows before k → own ≡ no-fault (fault-by rows (set before k v) k) → found ≡ (own >> rest)
+    → Judged rows k (set before k v) after found answer → Judged rows (k + 1) before after rest answer
+turn rows before after {k} {v} {rest} {own} {found} {answer} fits e f g j =
+    let at : ℕ → List ℕ = λ w. set before k w in
+    let q : found ≡ (no-fault (fault-by rows (at (exclusive-by rows before k)) k) >> rest) = g ∙ ap (λ a. a >> rest) (f ∙ ap (λ w. no-fault (fault-by rows (at w) k)) e) in
+    let i : Judged rows k (at (exclusive-by rows before k)) after found answer = subst (λ w. Judged rows k (at w) after found answer) e j in
+    one-more rows k before after fits (subst (λ a. Judged rows k (at (exclusive-by rows before k)) after a answer) q i)
+
+-- One number written in two ways.
+pub moved : {rows before after : List ℕ} {k m : ℕ} {rest answer : Answer (Unit {0})} → k ≡ m → Judged rows k before after rest answer → Judged rows m before after rest answer
+moved {rows} {before} {after} {rest = rest} {answer = answer} e j = subst (λ n. Judged rows n before after rest answer) e j
 
 -- A loop's body comes after it.
 loops-ordered : (rows : List ℕ) (count k i at : ℕ) (E : Expr) → Node rows count k i at E → tag-at rows k ≡ 5 → k < after-at rows (k + 1)

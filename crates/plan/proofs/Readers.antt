@@ -1,20 +1,21 @@
 -- Each way out of the readers of a field and of operands gives what the definition says, and has stored the rows of the nodes that were read.
 -- True because the readers go by the definition's cases, and each operand's rows follow those of the one before it.
 use Prim.Native.Nat.{ℕ, zero, suc, _+_, _*_, _-_, _≤_, _<_}
-use mathlib.Core.Path.{_≡_, refl, ap, _∙_}
+use mathlib.Core.Path.{_≡_, refl, sym, ap, _∙_}
 use mathlib.Core.List.{List, [], _∷_}
 use native.Mathlib.Omega.{arith}
 use native.Mathlib.Nat.{add-zero, add-assoc, add-sub-cancel-left}
 use native.Mathlib.Numerals.{sub-one}
 use lib.ListN.{length, take, drop, length-take, length-drop}
-use lib.Seq.{sets, take-all}
+use lib.Seq.{sets, take-all, drop-drop}
+use Rattle.field.specs.Limits.{action-limit}
 use Rattle.field.specs.Refusals.{operand-due, too-deep, bytes-after}
 use Rattle.field.specs.Answer.{Answer, good, refused, _>>=_}
 use Rattle.algebra.specs.Expr.{actions}
 use Rattle.plan.specs.Loops.{bytes}
 use Rattle.plan.specs.Reading.{Part, Parts, Reader, read-operands, read-field}
 use Rattle.plan.specs.Nodes.{numbers, node-count, nodes}
-use Rattle.plan.specs.Inner.{all-nodes, all-rows, with-row, field-with, IsOperator, HeadIs, OperandsFit, FieldIs, OperandsAre}
+use Rattle.plan.specs.Inner.{all-nodes, all-rows, with-row, field-with, IsOperator, HeadIs, FieldFits, FieldIs, OperandsAre}
 use Rattle.plan.specs.declared.Head.{Head}
 use Rattle.plan.specs.declared.Head.the-variants as head
 use Rattle.plan.specs.declared.FieldRead.{FieldRead}
@@ -33,10 +34,10 @@ clash z = absurd (let w : ⊥ = omega arith in w)
 pub body-length : (start len : ℕ) (s : List ℕ) → start + len ≤ length s → length (take (start + len - start) (drop start s)) ≡ len
 body-length start len s h = simp (length-take, length-drop) (omega arith)
 
-pub rest-whole : (u : ℕ) (s : List ℕ) → take (length s - u) (drop u s) ≡ drop u s
+rest-whole : (u : ℕ) (s : List ℕ) → take (length s - u) (drop u s) ≡ drop u s
 rest-whole u s = take-all (length s - u) (drop u s) (simp length-drop (omega arith))
 
-pub rest-length : (u : ℕ) (s : List ℕ) → length (take (length s - u) (drop u s)) ≡ length s - u
+rest-length : (u : ℕ) (s : List ℕ) → length (take (length s - u) (drop u s)) ≡ length s - u
 rest-length u s = ap length (rest-whole u s) ∙ length-drop u s
 
 -- the definition's cases, by the tests of the code
@@ -114,21 +115,21 @@ module _ (d : ℕ) (s : List ℕ) (at n node : ℕ) (t t′ : List ℕ) (r : Hea
 
 -- the ways out of the reader of operands
 
-pub operands-left-over : (read : Reader) (k : ℕ) (s : List ℕ) (at n node : ℕ) (t t′ : List ℕ) → k ≡ 0 → 0 < length s
+operands-left-over : (read : Reader) (k : ℕ) (s : List ℕ) (at n node : ℕ) (t t′ : List ℕ) → k ≡ 0 → 0 < length s
     → OperandsAre k (read-operands read k s at n) (operands-read.Refused bytes-after at) node n at t t′
 unfolding read-operands
 operands-left-over read zero [] at n node t t′ h i = absurd (let z : ⊥ = omega arith in z)
 operands-left-over read zero (x ∷ s) at n node t t′ h i = refl
 operands-left-over read (suc k) s at n node t t′ h i = absurd (let z : ⊥ = omega arith in z)
 
-pub operands-done : (read : Reader) (k : ℕ) (s : List ℕ) (at n node : ℕ) (t : List ℕ) → k ≡ 0 → length s ≤ 0
+operands-done : (read : Reader) (k : ℕ) (s : List ℕ) (at n node : ℕ) (t : List ℕ) → k ≡ 0 → length s ≤ 0
     → OperandsAre k (read-operands read k s at n) (operands-read.Read node n) node n at t t
 unfolding read-operands numbers
 operands-done read zero [] at n node t h i = (rw add-zero, refl)
 operands-done read zero (x ∷ s) at n node t h i = absurd (let z : ⊥ = omega arith in z)
 operands-done read (suc k) s at n node t h i = absurd (let z : ⊥ = omega arith in z)
 
-pub operands-missing : (read : Reader) (k : ℕ) (s : List ℕ) (at n node : ℕ) (t t′ : List ℕ) → (k ≡ 0 → ⊥) → length s ≡ 0
+operands-missing : (read : Reader) (k : ℕ) (s : List ℕ) (at n node : ℕ) (t t′ : List ℕ) → (k ≡ 0 → ⊥) → length s ≡ 0
     → OperandsAre k (read-operands read k s at n) (operands-read.Refused operand-due at) node n at t t′
 unfolding read-operands
 operands-missing read zero s at n node t t′ h i = absurd (h refl)
@@ -166,7 +167,7 @@ operand-read k (good p) rest r used next b node n at t t′ t″ h i o =
     let (c, s) = h p refl in
     rest-read k p (rest (p .bytes) (p .so-far)) r node n at t t′ t″ c s (i .1) (rw (eu, eb, en) at o)
 
-pub operands-refused : (read : Reader) (k : ℕ) (s : List ℕ) (at n node : ℕ) (t t′ : List ℕ) (r : FieldRead) (a c : ℕ) → (k ≡ 0 → ⊥) → (length s ≡ 0 → ⊥)
+operands-refused : (read : Reader) (k : ℕ) (s : List ℕ) (at n node : ℕ) (t t′ : List ℕ) (r : FieldRead) (a c : ℕ) → (k ≡ 0 → ⊥) → (length s ≡ 0 → ⊥)
     → FieldIs (read s at n) r node n at t t′ → r ≡ field-read.Refused a c → OperandsAre k (read-operands read k s at n) (operands-read.Refused a c) node n at t t′
 unfolding read-operands
 operands-refused read zero s at n node t t′ r a c h i o e = absurd (h refl)
@@ -174,19 +175,66 @@ operands-refused read (suc k) [] at n node t t′ r a c h i o e = absurd (i refl
 operands-refused read (suc k) (x ∷ s) at n node t t′ r a c h i o e =
     operand-refused k (read (x ∷ s) at n) (λ u b. read-operands read k (drop u (x ∷ s)) (at + u) b) a c node n at t t′ (rw e at o)
 
-pub operands-more : (d k : ℕ) (s : List ℕ) (at n node : ℕ) (t t′ t″ : List ℕ) (r : FieldRead) (used next b : ℕ) (r′ : OperandsRead) → (k ≡ 0 → ⊥) → (length s ≡ 0 → ⊥)
-    → FieldIs (read-field d s at n) r node n at t t′ → r ≡ field-read.Read used next b → used ≤ length s
-    → OperandsAre (k - 1) (read-operands (read-field d) (k - 1) (take (length s - used) (drop used s)) (at + used) b) r′ next b (at + used) t′ t″
+operands-more : (d k : ℕ) (s : List ℕ) (at n node : ℕ) (t t′ t″ : List ℕ) (r : FieldRead) (used next b : ℕ) (r′ : OperandsRead) → (k ≡ 0 → ⊥) → (length s ≡ 0 → ⊥)
+    → FieldIs (read-field d s at n) r node n at t t′ → r ≡ field-read.Read used next b
+    → OperandsAre (k - 1) (read-operands (read-field d) (k - 1) (drop used s) (at + used) b) r′ next b (at + used) t′ t″
     → OperandsAre k (read-operands (read-field d) k s at n) r′ node n at t t″
 unfolding read-operands
-operands-more d zero s at n node t t′ t″ r used next b r′ h i f e l o = absurd (h refl)
-operands-more d (suc k) [] at n node t t′ t″ r used next b r′ h i f e l o = absurd (i refl)
-operands-more d (suc k) (x ∷ s) at n node t t′ t″ r used next b r′ h i f e l o =
-    let whole : take (length (x ∷ s) - used) (drop used (x ∷ s)) ≡ drop used (x ∷ s) = rest-whole used (x ∷ s) in
+operands-more d zero s at n node t t′ t″ r used next b r′ h i f e o = absurd (h refl)
+operands-more d (suc k) [] at n node t t′ t″ r used next b r′ h i f e o = absurd (i refl)
+operands-more d (suc k) (x ∷ s) at n node t t′ t″ r used next b r′ h i f e o =
     operand-read k (read-field d (x ∷ s) at n) (λ u c. read-operands (read-field d) k (drop u (x ∷ s)) (at + u) c) r′ used next b node n at t t′ t″ (λ p g. field-counts d (x ∷ s) at n p g)
-    (rw e at f) (rw (sub-one, whole) at o)
+    (rw e at f) (rw sub-one at o)
 
--- what the operands after one leave is what all of them leave
-pub rest-fits : (r : OperandsRead) (l rest node next used : ℕ) → OperandsFit r rest next → rest ≡ l - used → used ≤ l → 3 * next ≤ 3 * node + used → OperandsFit r l node
-rest-fits (operands-read.Refused a c) l rest node next used i e h m = tt
-rest-fits (operands-read.Read k b) l rest node next used i e h m = omega arith
+-- The operands in front of `from` are read: whatever reads from there those that are due reads all of them.
+pub record Left (d k : ℕ) (s : List ℕ) (at n node : ℕ) (t t′ : List ℕ) (due from next so-far : ℕ) : Type 0 where
+  pub inside : from ≤ length s
+  pub numbered : 3 * next ≤ 3 * node + from
+  pub counted : so-far ≤ action-limit
+  pub long : length t′ ≡ length t
+  pub rest : (r : OperandsRead) (t″ : List ℕ) → OperandsAre due (read-operands (read-field d) due (drop from s) (at + from) so-far) r next so-far (at + from) t′ t″
+      → OperandsAre k (read-operands (read-field d) k s at n) r node n at t t″
+
+pub none-read : (d k : ℕ) (s : List ℕ) (at n node : ℕ) (t : List ℕ) → n ≤ action-limit → Left d k s at n node t t k 0 node n
+none-read d k s at n node t h = record { inside = omega arith; numbered = omega arith; counted = h; long = refl; rest = λ r t″ o. rw add-zero at o }
+
+module _ {d k : ℕ} {s : List ℕ} {at n node : ℕ} {t t′ : List ℕ} {due from next so-far : ℕ} (l : Left d k s at n node t t′ due from next so-far) where
+  -- what a reader of one field is handed
+  abbrev part : List ℕ
+  part = take (length s - from) (drop from s)
+
+  some-left : (from ≡ length s → ⊥) → length (drop from s) ≡ 0 → ⊥
+  some-left h e = h (omega (arith, l .inside, length-drop from s))
+
+  none-left : length s ≤ from → length (drop from s) ≤ 0
+  none-left h = simp length-drop (omega arith)
+
+  pub left-over : 0 ≡ due → from < length s → OperandsAre k (read-operands (read-field d) k s at n) (operands-read.Refused bytes-after (at + from)) node n at t t′
+  left-over e h = l .rest _ t′ (operands-left-over (read-field d) due (drop from s) (at + from) so-far next t′ t′ (sym e) (simp length-drop (omega arith)))
+
+  pub all-read : 0 ≡ due → length s ≤ from → OperandsAre k (read-operands (read-field d) k s at n) (operands-read.Read next so-far) node n at t t′
+  all-read e h = l .rest _ t′ (operands-done (read-field d) due (drop from s) (at + from) so-far next t′ (sym e) (none-left h))
+
+  pub one-missing : 0 < due → from ≡ length s → OperandsAre k (read-operands (read-field d) k s at n) (operands-read.Refused operand-due (at + from)) node n at t t′
+  one-missing h e = l .rest _ t′ (operands-missing (read-field d) due (drop from s) (at + from) so-far next t′ t′ (λ z. omega arith) (simp length-drop (omega arith)))
+
+  module _ (h : 0 < due) (i : from ≡ length s → ⊥) (r : FieldRead) (t″ : List ℕ) (f : FieldIs (read-field d part (at + from) so-far) r next so-far (at + from) t′ t″) where
+    field-there : FieldIs (read-field d (drop from s) (at + from) so-far) r next so-far (at + from) t′ t″
+    field-there = rw (rest-whole from s) at f
+
+    pub one-refused : (a c : ℕ) → r ≡ field-read.Refused a c → OperandsAre k (read-operands (read-field d) k s at n) (operands-read.Refused a c) node n at t t″
+    one-refused a c e = l .rest _ t″ (operands-refused (read-field d) due (drop from s) (at + from) so-far next t′ t″ r a c (λ z. omega arith) (some-left i) field-there e)
+
+    pub one-read : (used m b : ℕ) → r ≡ field-read.Read used m b → FieldFits r (length part) next → length t″ ≡ length t′ → Left d k s at n node t t″ (due - 1) (from + used) m b
+    one-read used m b e g w =
+        let fits : FieldFits (field-read.Read used m b) (length part) next = rw e at g in
+        let long : length part ≡ length s - from = rest-length from s in
+        record {
+          inside = omega (arith, l .inside);
+          numbered = omega (arith, l .numbered);
+          counted = fits .3;
+          long = w ∙ l .long;
+          rest = λ r′ t‴ o. l .rest r′ t‴
+              (operands-more d due (drop from s) (at + from) so-far next t′ t″ t‴ r used m b r′ (λ z. omega arith) (some-left i) field-there e
+              (rw (drop-drop used from s, add-assoc at from used) o));
+        }

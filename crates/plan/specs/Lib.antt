@@ -3,6 +3,7 @@ pub mod Loops
 pub mod Bytes
 pub mod Nodes
 pub mod Judged
+pub mod Judging
 pub mod Table
 pub mod Inner
 pub mod Says

@@ -8,14 +8,13 @@ use crate::tags::PARALLEL;
 use crate::tags::SCOPE;
 use crate::tags::TAG;
 ghost use mathlib.Core.Path.{_≡_};
-ghost use mathlib.Core.List.{List};
-ghost use Prim.Native.Nat.{ℕ, _+_, _*_, _<_, _≤_};
+ghost use Prim.Native.Nat.{_+_, _*_, _<_, _≤_};
 ghost use lib.ListN.{length, getD};
-ghost use Rattle.field.specs.Answer.{Answer};
 ghost use Rattle.algebra.specs.Expr.{Expr};
 ghost use Rattle.plan.specs.Loops.{no-fault, check-loops};
 ghost use Rattle.plan.specs.Table.{Table};
-ghost use Rattle.plan.specs.Judged.{loops-say, offset-says, first-refusal, exclusive-by, fault-by, Judged};
+ghost use Rattle.plan.specs.Judged.{loops-say, offset-says, first-refusal, exclusive-by, fault-by};
+ghost use Rattle.plan.specs.Judging.{JudgesDown};
 
 // So many nodes are few.
 const FEW_NODES: usize = 64;
@@ -102,21 +101,42 @@ fn loops_at(offset: usize) -> Loops
     Loops::Fine
 }
 
-// Judges the nodes from `low` to `high`, the upper half before the lower, so that the node number falls and calls stay few inside each other.
-// Answers the offset of the first faulty loop from `low` on, where `later` is that from `high` on.
-fn judge(rows: &[u16], low: usize, high: usize, exclusive: &mut [u16], later: usize) -> usize
-    requires { ⌜ (low < high) × (high ≤ 1366) × (high ≤ length (now exclusive)) ⌝ }
-    ensures { λ r. ⌜ ((after : List ℕ) (answer : Answer (Unit {0})) → Judged (now (rows .entry)) low (now (exclusive .exit)) after (offset-says r) answer → Judged (now (rows .entry)) high (now (exclusive .entry)) after (offset-says later) answer) ⌝ }
+// Judges node k. Answers the offset of the first faulty loop from k on, where `later` is that behind it.
+fn judge_node(rows: &[u16], k: usize, exclusive: &mut [u16], later: usize) -> usize
+    requires { ⌜ (k < 1366) × (k < length (now exclusive)) ⌝ }
+    ensures { λ r. ⌜ JudgesDown (now (rows .entry)) k (k + 1) (now (exclusive .entry)) (now (exclusive .exit)) later r ⌝ }
 {
-    if low + 1 == high {
-        let node = high - 1;
-        exclusive[node] = is_exclusive(rows, node, exclusive);
-        let own = fault_of(rows, node, exclusive);
-        return first_of(own, later);
+    exclusive[k] = is_exclusive(rows, k, exclusive);
+    let own = fault_of(rows, k, exclusive);
+    first_of(own, later)
+}
+
+// Judges four nodes from k on, the last first.
+fn judge_four(rows: &[u16], k: usize, exclusive: &mut [u16], later: usize) -> usize
+    requires { ⌜ (k + 4 ≤ 1366) × (k + 4 ≤ length (now exclusive)) ⌝ }
+    ensures { λ r. ⌜ JudgesDown (now (rows .entry)) k (k + 4) (now (exclusive .entry)) (now (exclusive .exit)) later r ⌝ }
+{
+    let fourth = judge_node(rows, k + 3, exclusive, later);
+    let third = judge_node(rows, k + 2, exclusive, fourth);
+    let second = judge_node(rows, k + 1, exclusive, third);
+    judge_node(rows, k, exclusive, second)
+}
+
+// Judges the nodes below `high`, the node number falling, four to a call while there are as many: a call costs more than a node, and calls stay
+// few inside each other. Answers the offset of the first faulty loop, where `later` is that from `high` on.
+fn judge(rows: &[u16], high: usize, exclusive: &mut [u16], later: usize) -> usize
+    requires { ⌜ (high ≤ 1366) × (high ≤ length (now exclusive)) ⌝ }
+    ensures { λ r. ⌜ JudgesDown (now (rows .entry)) 0 high (now (exclusive .entry)) (now (exclusive .exit)) later r ⌝ }
+{
+    if high == 0 {
+        return later;
     }
-    let middle = (low + high) / 2;
-    let found = judge(rows, middle, high, exclusive, later);
-    judge(rows, low, middle, exclusive, found)
+    if high < 4 {
+        let found = judge_node(rows, high - 1, exclusive, later);
+        return judge(rows, high - 1, exclusive, found);
+    }
+    let found = judge_four(rows, high - 4, exclusive, later);
+    judge(rows, high - 4, exclusive, found)
 }
 
 // The check for loops with room for as many nodes.
@@ -124,10 +144,7 @@ fn check_in(rows: &[u16], nodes: usize, exclusive: &mut [u16]) -> Loops
     requires { ⌜ (nodes ≤ 1366) × (nodes ≤ length (now exclusive)) ⌝ }
     ensures { λ r. ⌜ ((E : Expr) → Table (now (rows .entry)) nodes E → loops-say r ≡ check-loops E) ⌝ }
 {
-    if nodes == 0 {
-        return Loops::Fine;
-    }
-    loops_at(judge(rows, 0, nodes, exclusive, NO_OFFSET))
+    loops_at(judge(rows, nodes, exclusive, NO_OFFSET))
 }
 
 // The check for loops of a plan of few nodes, with room that costs little to make.

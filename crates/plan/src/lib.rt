@@ -231,7 +231,8 @@ fn read_field(
     }
 }
 
-// So many operands, and no byte after the last. `s` is what is left of the enclosing body: nothing else can be read from here.
+// So many operands, and no byte after the last. `s` is what is left of the enclosing body: nothing else can be read from here. A loop, since a
+// call for each operand would cost more than most operands.
 fn read_operands(
     s: &[u8],
     at: usize,
@@ -245,35 +246,34 @@ fn read_operands(
     ensures fits { λ r. ⌜ OperandsFit r (length (now (s .entry))) node ⌝ }
     ensures are { λ r. ⌜ OperandsAre members (read-operands (read-field levels) members (now (s .entry)) at actions) r node actions at (now (rows .entry)) (now (rows .exit)) ⌝ }
 {
-    if members == 0 {
-        if 0 < s.len() {
-            return OperandsRead::Refused(field::BYTES_AFTER, at);
+    let mut due = members;
+    let mut from = 0;
+    let mut next = node;
+    let mut so_far = actions;
+    while 0 < due {
+        if from == s.len() {
+            return OperandsRead::Refused(field::OPERAND_DUE, at + from);
         }
-        return OperandsRead::Read {
-            nodes: node,
-            actions: actions,
-        };
-    }
-    if s.len() == 0 {
-        return OperandsRead::Refused(field::OPERAND_DUE, at);
-    }
-    match read_field(s, at, levels, node, actions, rows) {
-        FieldRead::Refused(number, carried) => return OperandsRead::Refused(number, carried),
-        FieldRead::Read {
-            used,
-            nodes,
-            actions: so_far,
-        } => {
-            return read_operands(
-                &s[used..],
-                at + used,
-                levels,
+        match read_field(&s[from..], at + from, levels, next, so_far, rows) {
+            FieldRead::Refused(number, carried) => return OperandsRead::Refused(number, carried),
+            FieldRead::Read {
+                used,
                 nodes,
-                so_far,
-                members - 1,
-                rows,
-            );
+                actions: counted,
+            } => {
+                due -= 1;
+                from += used;
+                next = nodes;
+                so_far = counted;
+            }
         }
+    }
+    if from < s.len() {
+        return OperandsRead::Refused(field::BYTES_AFTER, at + from);
+    }
+    OperandsRead::Read {
+        nodes: next,
+        actions: so_far,
     }
 }
 

@@ -16,8 +16,8 @@ use Rattle.plan.specs.declared.PlanRead.the-variants as plan-read
 use Rattle.plan.proofs.ReaderDetermined.{answer-determined, rows-determined}
 use Rattle.boxes.specs.Compile.{Counts, compile}
 use Rattle.boxes.specs.Compile as paper
-use Rattle.compile.specs.Built.{compiling-says}
-use Rattle.compile.specs.Built as built
+use Rattle.compile.specs.Says.{compiling-says}
+use Rattle.compile.specs.Says as built
 use Rattle.compile.specs.declared.Compiling.{Compiling}
 use Rattle.compile.specs.declared.Compiling.the-variants as compiling
 use Rattle.compile.proofs.Determined.{Allowed, compile-determined}

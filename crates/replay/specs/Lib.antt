@@ -1,3 +1,4 @@
 pub mod Replay
 pub mod Recorded
+pub mod Fine
 pub mod OnANet

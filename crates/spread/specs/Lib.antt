@@ -1,6 +1,4 @@
-pub mod Path
-pub mod Room
-pub mod Kids
-pub mod Walk
-pub mod Stack
+pub mod Lists
+pub mod Placing
 pub mod Spread
+pub mod Walk

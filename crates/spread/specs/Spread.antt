@@ -1,14 +1,19 @@
--- The input and output places of every action: what they are asked of, and where they stand.
+-- What is asked of the tables of an expression, and what is told of each of its actions: where its places stand, and how many they are.
 use Prim.Native.Nat.{ℕ, _+_, _*_, _≤_, _<_}
 use mathlib.Core.Path.{_≡_}
-use mathlib.Core.List.{List}
-use lib.ListN.{length, getD, take, drop}
+use mathlib.Core.List.{List, [], _∷_}
+use lib.ListN.{length, getD, take}
 use Rattle.field.specs.Limits.{place-limit}
-use Rattle.algebra.specs.Expr.{Expr, actions}
+use Rattle.algebra.specs.Expr.{Expr}
 use Rattle.algebra.specs.Places.{places}
-use Rattle.algebra.specs.Arcs.{numbers, consumes, produces}
+use Rattle.algebra.specs.Arcs.{numbers}
 use Rattle.plan.specs.Table.{Table}
 use Rattle.boxes.specs.NodeCounts.{node-counts}
+use Rattle.arcs.specs.Moves.{passes}
+use Rattle.arcs.specs.Spreads.{Spread, placed}
+use Rattle.arcs.specs.declared.moves.Side.{Side}
+use Rattle.arcs.specs.declared.moves.Side.the-variants.{Inputs, Outputs}
+use Rattle.spread.specs.Lists.{list-row, place-of, Means}
 
 -- The rows begin with the node table of an expression and the counts with those of its nodes; its places are within the limit.
 pub record Of (rows : List ℕ) (nodes : ℕ) (counts : List ℕ) (E : Expr) : Type 0 where
@@ -16,17 +21,19 @@ pub record Of (rows : List ℕ) (nodes : ℕ) (counts : List ℕ) (E : Expr) : T
   pub counted : take (3 * nodes) counts ≡ node-counts E
   pub few : length (places 0 E) ≤ place-limit
 
--- From a place on so many numbers of the room are a list, whole.
-pub record Part (room : List ℕ) (start count : ℕ) (l : List ℕ) : Type 0 where
-  pub all : count ≡ length l
-  pub inside : start + count ≤ length room
-  pub list : take count (drop start room) ≡ l
+-- The list of node k on one side places its first position at these numbers.
+pub record Listed (lists : List ℕ) (side : Side) (k : ℕ) (l : List ℕ) : Type 0 where
+  pub spread : Spread
+  pub wide : 0 < spread .width
+  pub means : Means lists side k (list-row lists (place-of side k)) spread
+  pub is : l ≡ placed spread (0 ∷ [])
 
--- The index has four numbers for an action: start and count of its input places, start and count of its output places.
-pub record Places (room index : List ℕ) (E : Expr) (i : ℕ) : Type 0 where
-  pub inputs : Part room (getD index (4 * i) 0) (getD index (4 * i + 1) 0) (numbers (consumes i) 0 (places 0 E))
-  pub outputs : Part room (getD index (4 * i + 2) 0) (getD index (4 * i + 3) 0) (numbers (produces i) 0 (places 0 E))
+-- Where the index has the number of an action's places on one side, behind the number of its node.
+abbrev pub count-of : Side → ℕ → ℕ
+count-of Inputs i = 3 * i + 1
+count-of Outputs i = 3 * i + 2
 
--- Every action's places stand in the room.
-abbrev pub Spreads : List ℕ → ℕ → List ℕ → List ℕ → List ℕ → Type 0
-Spreads rows nodes counts room index = (E : Expr) → Of rows nodes counts E → (i : ℕ) → i < actions E → Places room index E i
+-- The index tells the node of action i, whose lists are the action's places in the box of E, and how many these are.
+pub record Told (lists index : List ℕ) (E : Expr) (i : ℕ) : Type 0 where
+  pub listed : (side : Side) → Listed lists side (getD index (3 * i) 0) (numbers (passes side i) 0 (places 0 E))
+  pub counted : (side : Side) → getD index (count-of side i) 0 ≡ length (numbers (passes side i) 0 (places 0 E))

@@ -1,102 +1,59 @@
--- What the walk over the node table asks of the path, and what it leaves in the room and the index.
-use Prim.Native.Nat.{ℕ, _+_, _*_, _≤_, _<_}
+-- What the pass over the node table puts for each node. These definitions follow the code.
+use Prim.Native.Nat.{ℕ, _+_, _*_, _%_, _≤_}
 use mathlib.Core.Path.{_≡_}
+use mathlib.Core.Bool.{cond}
 use mathlib.Core.List.{List, [], _∷_}
-use lib.ListN.{length, getD, set}
-use Rattle.field.specs.Limits.{place-limit}
-use Rattle.algebra.specs.Expr.{Expr, actions}
-use Rattle.algebra.specs.Places.{places}
-use Rattle.algebra.specs.Arcs.{numbers}
-use Rattle.plan.specs.Table.{Stands, tag-at, after-at}
-use Rattle.arcs.specs.Positions.{stretched}
-use Rattle.arcs.specs.Moves.{passes, own, box, Lies}
-use Rattle.arcs.specs.Search.{At, In, first-at, child, child-by}
+use lib.ListN.{length, set}
+use lib.Dec.{eqb}
+use Rattle.plan.specs.Table.{after-at}
+use Rattle.arcs.specs.Moves.{shift, sequence-move, choice-move, parallel-move, loop-move}
+use Rattle.arcs.specs.Nodes.{first-at, counts-at}
+use Rattle.arcs.specs.Spreads.{Spread, placed}
 use Rattle.arcs.specs.declared.moves.Side.{Side}
 use Rattle.arcs.specs.declared.moves.Side.the-variants.{Inputs, Outputs}
 use Rattle.arcs.specs.declared.moves.Kind.{Kind}
-use Rattle.arcs.specs.declared.moves.Kind.the-variants.{Internal}
+use Rattle.arcs.specs.declared.moves.Kind.the-variants.{Entry, Exit}
 use Rattle.arcs.specs.declared.moves.Operand.{Operand}
-use Rattle.spread.specs.declared.kids.Spot.{Spot}
-use Rattle.spread.specs.Path.{final}
-use Rattle.spread.specs.Room.{Made}
-use Rattle.spread.specs.Kids.{Led}
+use Rattle.arcs.specs.declared.moves.Operand.the-variants.{First, Second, Third}
+use Rattle.arcs.specs.declared.moves.Counts.{Counts}
+use Rattle.arcs.specs.declared.moves.Move.{Move}
+use Rattle.spread.specs.Lists.{one-list, list-row, row-put, operand-put, place-of, Means}
 
--- The row of a side, and where the index has the start of an action's list; the count stands behind it.
-abbrev pub row-of : Side → Spot → ℕ
-row-of Inputs s = s .entry
-row-of Outputs s = s .exit
+-- The moves of an operator of two operands, by its tag.
+abbrev pub pair-move : ℕ → Counts → Counts → Operand → Kind → Move
+pair-move tag e f o kind = cond (eqb tag 2) (sequence-move o kind e f) (cond (eqb tag 3) (choice-move o kind e f) (parallel-move o kind e))
 
-abbrev pub slot : Side → ℕ → ℕ
-slot Inputs i = 4 * i + 0
-slot Outputs i = 4 * i + 2
+abbrev pub root-put : Counts → List ℕ → List ℕ
+root-put c lists = set (row-put (row-put lists 0 (one-list 0 1 0 0 0)) 5 (one-list (c .entries + c .internals) 1 0 0 0)) 10 (c .entries % 65536)
 
--- The input or output places of action i of the whole expression.
-abbrev pub arcs : Expr → Side → ℕ → List ℕ
-arcs R side i = numbers (passes side i) 0 (places 0 R)
+abbrev pub two-put : List ℕ → ℕ → ℕ → ℕ → Counts → Counts → List ℕ
+two-put lists k second tag e f =
+    operand-put (operand-put lists k (k + 1) (pair-move tag e f First Entry) (pair-move tag e f First Exit) 0)
+    k second (pair-move tag e f Second Entry) (pair-move tag e f Second Exit) (e .internals)
 
--- Action i's places of a side stand in one list of node k, at these positions, whatever expression the node is.
-abbrev pub Stay : List ℕ → List ℕ → ℕ → ℕ → Side → ℕ → Kind → List ℕ → Type 0
-Stay rows counts nodes k side i kind ps = (m : ℕ) (F : Expr) → In rows counts nodes k i m F → Lies kind (box side i m F) ps
+abbrev pub three-put : List ℕ → ℕ → ℕ → ℕ → Counts → Counts → Counts → List ℕ
+three-put lists k second third e f g =
+    operand-put
+    (operand-put (operand-put lists k (k + 1) (loop-move First Entry e f g) (loop-move First Exit e f g) 0)
+    k second (loop-move Second Entry e f g) (loop-move Second Exit e f g) (e .internals))
+    k third (loop-move Third Entry e f g) (loop-move Third Exit e f g) (e .internals + f .internals)
 
--- The rows lead from the lists of a node, which is E, to the final numbers of the whole R.
-pub record Leads (rows counts : List ℕ) (nodes : ℕ) (R : Expr) (n : ℕ) (E : Expr) (path : List ℕ) (s : Spot) : Type 0 where
-  pub led : Led path s
-  pub outer : (side : Side) (i : ℕ) → n ≤ i → i < n + actions E → (ps : List ℕ) → Stay rows counts nodes (s .node) side i (own side) ps → arcs R side i ≡ final path (row-of side s) ps
-  pub inner : (side : Side) (i : ℕ) → n ≤ i → i < n + actions E → (ps : List ℕ) → Stay rows counts nodes (s .node) side i Internal ps → arcs R side i ≡ stretched 1 (s .base) ps
+abbrev pub operands-put : List ℕ → List ℕ → ℕ → ℕ → List ℕ → List ℕ
+operands-put rows counts k tag lists =
+    let second = after-at rows (k + 1) in
+    let third = after-at rows second in
+    cond (eqb tag 6) (operand-put lists k (k + 1) (shift Entry 0) (shift Exit 0) 0)
+    (cond (eqb tag 5) (three-put lists k second third (counts-at counts (k + 1)) (counts-at counts second) (counts-at counts third))
+    (two-put lists k second tag (counts-at counts (k + 1)) (counts-at counts second)))
 
--- Node k is an expression, of few enough places.
-pub record Here (rows counts : List ℕ) (nodes k n : ℕ) (E : Expr) : Type 0 where
-  pub at : At rows counts nodes k n E
-  pub few : length (places n E) ≤ place-limit
+-- A number is the count of the places that node k's list has for its first position, whatever spread that is.
+abbrev pub Counts-of : List ℕ → Side → ℕ → ℕ → Type 0
+Counts-of lists side k n = (s : Spread) → Means lists side k (list-row lists (place-of side k)) s → length (placed s (0 ∷ [])) ≤ 65535 → n ≡ length (placed s (0 ∷ []))
 
--- An operand of node k, with its node, its first action and its expression.
-pub record Kid (rows counts : List ℕ) (nodes k n : ℕ) (E : Expr) (operand : Operand) (c m : ℕ) (X : Expr) : Type 0 where
-  pub here : Here rows counts nodes c m X
-  pub low : n ≤ m
-  pub high : m + actions X ≤ n + actions E
-  pub by : (i : ℕ) → m ≤ i → i < m + actions X → child operand c ≡ child-by rows k i
-
--- A list stands in the room, as the index says, before a place.
-pub record Listed (room index : List ℕ) (upto slot : ℕ) (l : List ℕ) : Type 0 where
-  pub all : getD index (slot + 1) 0 ≡ length l
-  pub there : Stands room (getD index slot 0) l
-  pub inside : getD index slot 0 + length l ≤ upto
-
--- The start of a list and its count, put into the index.
-abbrev pub pair-put : List ℕ → ℕ → ℕ → ℕ → List ℕ
-pair-put index slot start count = set (set index slot start) (slot + 1) count
-
--- The output places of action i, made behind its input places, and where both are.
-pub record PutOutputs (s : Spot) (i inputs : ℕ) (path : List ℕ) (r : ℕ) (room room′ index index′ : List ℕ) : Type 0 where
-  pub outputs : ℕ
-  pub made : Made room room′ (s .at + inputs) outputs (final path (s .exit) (0 ∷ []))
-  pub end : r ≡ s .at + inputs + outputs
-  pub pairs : index′ ≡ pair-put (pair-put index (4 * i + 0) (s .at) inputs) (4 * i + 2) (s .at + inputs) outputs
-
--- The two lists of the action that a node is, made from a place on.
-pub record Put (rows : List ℕ) (s : Spot) (path : List ℕ) (r : ℕ) (room room′ index index′ : List ℕ) : Type 0 where
+-- What the index tells of the action that node k is.
+pub record ActionPut (rows lists : List ℕ) (k : ℕ) (index index′ : List ℕ) : Type 0 where
   pub inputs : ℕ
   pub outputs : ℕ
-  pub middle : List ℕ
-  pub fits : 4 * first-at rows (s .node) + 4 ≤ length index
-  pub first : Made room middle (s .at) inputs (final path (s .entry) (0 ∷ []))
-  pub second : Made middle room′ (s .at + inputs) outputs (final path (s .exit) (0 ∷ []))
-  pub end : r ≡ s .at + inputs + outputs
-  pub pairs : index′ ≡ pair-put (pair-put index (4 * first-at rows (s .node) + 0) (s .at) inputs) (4 * first-at rows (s .node) + 2) (s .at + inputs) outputs
-
--- The tables are as long as the number of nodes asks.
-pub record Tables (rows counts : List ℕ) (nodes : ℕ) : Type 0 where
-  pub few : nodes ≤ 4096
-  pub rows-long : 6 * nodes ≤ length rows
-  pub counts-long : 3 * nodes ≤ length counts
-
--- A node of two operands or three, and where the second is.
-pub record Inner (rows : List ℕ) (nodes : ℕ) (s : Spot) (tag second : ℕ) : Type 0 where
-  pub tag-is : tag ≡ tag-at rows (s .node)
-  pub not-action : tag ≡ 1 → ⊥
-  pub not-scope : tag ≡ 6 → ⊥
-  pub second-is : second ≡ after-at rows (s .node + 1)
-  pub next : s .node + 1 < nodes
-  pub inside : second < nodes
-  pub room : s .free ≤ 636
-  pub deep : s .top ≤ 66
+  pub stored : index′ ≡ set (set (set index (3 * first-at rows k) (k % 65536)) (3 * first-at rows k + 1) (inputs % 65536)) (3 * first-at rows k + 2) (outputs % 65536)
+  pub inputs-are : Counts-of lists Inputs k inputs
+  pub outputs-are : Counts-of lists Outputs k outputs

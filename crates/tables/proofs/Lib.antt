@@ -1,4 +1,5 @@
-pub mod Puts
-pub mod FromLists
-pub mod IntoLists
 pub mod Runs
+pub mod Counted
+pub mod Unions
+pub mod Sides
+pub mod Puts

@@ -1,20 +1,25 @@
--- 01, "Net tables": the rows and the arcs of a plan's transitions, as they are made one transition after another in the work room. These contracts follow the code.
-use Prim.Native.Nat.{ℕ, zero, suc, _+_, _*_, _≤_, _<_}
+-- 01, "Net tables": the rows and the arcs of a plan's transitions, each written once where it belongs: what is asked of the work tables, and what is left.
+use Prim.Native.Nat.{ℕ, zero, suc, _+_, _*_, _-_, _≤_, _<_}
 use mathlib.Core.Path.{_≡_}
-use mathlib.Core.List.{List, [], _∷_, _++_, map}
-use lib.ListN.{length, getD, take}
+use mathlib.Core.List.{List, [], _∷_, _++_}
+use lib.ListN.{length, getD, take, drop}
 use lib.Seq.{sets}
 use Rattle.field.specs.Limits.{place-limit}
 use Rattle.algebra.specs.Expr.{Expr, actions}
-use Rattle.algebra.specs.Item.{Item}
+use Rattle.algebra.specs.Exclusive.{LoopsExclusive}
+use Rattle.algebra.specs.Scopes.{ScopesNamed}
+use Rattle.algebra.specs.Item.{Item, one, two}
 use Rattle.algebra.specs.Net.{Transition}
 use Rattle.algebra.specs.Places.{places}
 use Rattle.algebra.specs.Transitions.{Labelled, transitions}
-use Rattle.algebra.specs.Arcs.{transition-of}
-use Rattle.net.specs.Tables.{item-of, rows-from, arcs-from}
-use Rattle.plan.specs.Table.{Table}
-use Rattle.boxes.specs.NodeCounts.{node-counts}
-use Rattle.arcs.specs.Asked.{Acts}
+use Rattle.algebra.specs.Arcs.{numbers, by-item, net-of}
+use Rattle.net.specs.Tables.{item-of, rows-from, arcs-of}
+use Rattle.boxes.specs.ArcCounts.{item-arcs}
+use Rattle.arcs.specs.Merge.{union}
+use Rattle.arcs.specs.Moves.{passes}
+use Rattle.arcs.specs.declared.moves.Side.{Side}
+use Rattle.arcs.specs.declared.moves.Side.the-variants.{Inputs, Outputs}
+use Rattle.spread.specs.Spread.{count-of, Told}
 
 -- Transition t of the list, three numbers to each, and so many from t on.
 abbrev pub item-at : List ℕ → ℕ → Item
@@ -27,54 +32,74 @@ unfoldable pub listed-from : List ℕ → ℕ → ℕ → List Labelled
 listed-from list t zero = []
 listed-from list t (suc n) = listed-at list t ∷ listed-from list (suc t) n
 
--- The transitions from t on are put: their rows from row t on, their arcs from a place of the arcs on, and the arcs then end at r;
--- or r is above a limit, and then so is the end of their arcs.
-pub record Put (limit r t at : ℕ) (ts : List Transition) (rows rows′ arcs arcs′ : List ℕ) : Type 0 where
-  pub ends : r ≤ limit → r ≡ at + length (arcs-from ts)
-  pub in-rows : r ≤ limit → rows′ ≡ sets rows (6 * t) (rows-from at ts)
-  pub in-arcs : r ≤ limit → arcs′ ≡ sets arcs at (arcs-from ts)
-  pub beyond : limit < r → limit < at + length (arcs-from ts)
+-- How many places the index tells of an action: on one side, and on both.
+abbrev pub told-count : List ℕ → Side → ℕ → ℕ
+told-count index side i = getD index (count-of side i) 0
 
--- The arcs of one transition: where its inputs end, and its outputs.
-pub record PutArcs (limit middle end at : ℕ) (inputs outputs arcs arcs′ : List ℕ) : Type 0 where
-  pub half : end ≤ limit → middle ≡ at + length inputs
-  pub whole : end ≤ limit → end ≡ middle + length outputs
-  pub written : end ≤ limit → arcs′ ≡ sets arcs at (inputs ++ outputs)
-  pub beyond : limit < end → limit < at + (length inputs + length outputs)
+abbrev pub told-arcs : List ℕ → ℕ → ℕ
+told-arcs index i = getD index (3 * i + 1) 0 + getD index (3 * i + 2) 0
 
--- The arcs of one side.
-pub record PutSide (limit end at : ℕ) (places arcs arcs′ : List ℕ) : Type 0 where
-  pub ends : end ≤ limit → end ≡ at + length places
-  pub written : end ≤ limit → arcs′ ≡ sets arcs at places
-  pub beyond : limit < end → limit < at + length places
+-- The places of an item on one side in the box of E.
+abbrev pub item-places : Expr → Side → Item → List ℕ
+item-places E side item = numbers (by-item (passes side) item) 0 (places 0 E)
 
--- The work tables are an expression's: its nodes, their counts of places, and a list of transitions with its actions.
-pub record OfAll (table : List ℕ) (nodes : ℕ) (counts list : List ℕ) (many : ℕ) (E : Expr) : Type 0 where
-  pub nodes-of : Table table nodes E
-  pub counted : take (3 * nodes) counts ≡ node-counts E
+-- The work tables are those of an expression: the index tells each action's places, and they are few.
+pub record Drafted (lists index : List ℕ) (E : Expr) : Type 0 where
+  pub told : (i : ℕ) → i < actions E → Told lists index E i
   pub few : length (places 0 E) ≤ place-limit
-  pub few-actions : actions E ≤ 256
-  pub acts : (t : ℕ) → t < many → Acts (item-at list t) E
+  pub loops : LoopsExclusive E
+  pub scopes : ScopesNamed E
 
--- And the list is all of its transitions.
-pub record Whole (table : List ℕ) (nodes : ℕ) (counts list : List ℕ) (many : ℕ) (E : Expr) : Type 0 where
-  pub of : OfAll table nodes counts list many E
+-- And the list has its transitions.
+pub record Whole (lists index list : List ℕ) (many : ℕ) (E : Expr) : Type 0 where
+  pub draft : Drafted lists index E
+  pub few-actions : actions E ≤ 256
   pub listed : listed-from list 0 many ≡ transitions 0 E
 
--- There is such an expression.
-pub record AskedAll (table : List ℕ) (nodes : ℕ) (counts list : List ℕ) (many : ℕ) : Type 0 where
+-- There is such an expression, and room for its tables.
+pub record Asked (lists index list : List ℕ) (many : ℕ) (rows arcs : List ℕ) : Type 0 where
   pub E : Expr
-  pub of : OfAll table nodes counts list many E
+  pub whole : Whole lists index list many E
+  pub few : many ≤ 1024
+  pub rows-long : 6 * many ≤ length rows
+  pub list-long : 3 * many ≤ length list
+  pub arcs-long : length (arcs-of (net-of E)) ≤ length arcs
+  pub arcs-few : length (arcs-of (net-of E)) ≤ 16384
 
--- The transitions of the list with the arcs of an expression's places.
-abbrev pub made : Expr → List Labelled → List Transition
-made E ts = map (transition-of (places 0 E)) ts
+-- Each action of an item is below a number.
+abbrev pub Below : ℕ → Item → Type 0
+Below n (one i) = i < n
+Below n (two i j) = (i < n) × (j < n)
 
--- What is asked where the transitions are put, and what is left.
-abbrev pub Putable : List ℕ → ℕ → List ℕ → List ℕ → ℕ → List ℕ → List ℕ → Type 0
-Putable table nodes counts list many rows arcs =
-    AskedAll table nodes counts list many × (many ≤ 1024) × (6 * many ≤ length rows) × (length arcs ≤ 16384) × (length table ≤ 8196) × (3 * many ≤ length list)
+-- A part of the arcs that is as long as an item's places on one side became these, whatever expression the work tables are of.
+abbrev pub Placed : List ℕ → List ℕ → Side → Item → List ℕ → List ℕ → Type 0
+Placed lists index side item before after =
+    (E : Expr) → Drafted lists index E → Below (actions E) item → length before ≡ length (item-places E side item) → after ≡ item-places E side item
 
-abbrev pub PutAll : List ℕ → ℕ → List ℕ → List ℕ → ℕ → ℕ → List ℕ → List ℕ → List ℕ → List ℕ → Type 0
-PutAll table nodes counts list many r rows rows′ arcs arcs′ =
-    (E : Expr) → OfAll table nodes counts list many E → Put (length arcs) r 0 0 (made E (listed-from list 0 many)) rows rows′ arcs arcs′
+-- And a part became an item's inputs and behind them its outputs, where the index tells how many these are.
+abbrev pub PlacedBoth : List ℕ → List ℕ → Item → List ℕ → Type 0
+PlacedBoth lists index item after =
+    (E : Expr) → Drafted lists index E → Below (actions E) item → ((side : Side) → item-arcs (told-count index side) item ≡ length (item-places E side item))
+    → after ≡ item-places E Inputs item ++ item-places E Outputs item
+
+-- The number before place m is below the one there.
+abbrev pub InOrder : List ℕ → ℕ → Type 0
+InOrder l m = (0 < m) × (getD l (m - 1) 0 < getD l m 0)
+
+-- Two lists that stand one behind the other, the second from place m on, became one, where they share no number.
+abbrev pub MergedAt : ℕ → List ℕ → List ℕ → Type 0
+MergedAt m before after = length (union (take m before) (drop m before)) ≡ length before → after ≡ union (take m before) (drop m before)
+
+-- There is room for transition t, whose arcs start at a place.
+pub record Room (index list : List ℕ) (t at : ℕ) (rows arcs : List ℕ) : Type 0 where
+  pub few : t < 1024
+  pub rows-long : 6 * (t + 1) ≤ length rows
+  pub list-long : 3 * (t + 1) ≤ length list
+  pub arcs-long : at + item-arcs (told-arcs index) (item-at list t) ≤ length arcs
+  pub arcs-few : at + item-arcs (told-arcs index) (item-at list t) ≤ 16384
+  pub side-few : (side : Side) → item-arcs (told-count index side) (item-at list t) ≤ 2048
+
+-- A transition is put: its row as row t, its arcs from a place on.
+pub record Put (t at : ℕ) (T : Transition) (rows rows′ arcs arcs′ : List ℕ) : Type 0 where
+  pub in-rows : rows′ ≡ sets rows (6 * t) (rows-from at (T ∷ []))
+  pub in-arcs : arcs′ ≡ sets arcs at (T .inputs ++ T .outputs)

@@ -1,6 +1,4 @@
-// 01, "Net tables": the three tables of a net, made in the library's own work room from a plan's nodes, their counts and its transitions.
+// 01, "Net tables": the three tables of a net, written where they belong once all is judged.
 pub mod copying;
 pub mod kinds;
-pub mod rooms;
-mod rows;
-mod searched;
+pub mod rows;

@@ -1,122 +1,217 @@
 // 01, "Net tables": "six 16-bit numbers per transition .. arcs, 16-bit place numbers, inputs then outputs, each rising, transition after
-// transition with no gap", made in the library's own work room, so that nothing lent is written before 13 and 14 are known. The places of
-// each action stand in the lists already, and the index tells where.
+// transition with no gap". How many places each action has is told beforehand, so each row and each arc is written once, where it belongs.
 use crate::copying::put;
 use arcs::merge::merge;
 use arcs::moves::Side;
 use plan::exclusive::number_at;
 use plan::exclusive::wide;
+use spread::placing::place_of;
+use spread::placing::put_places;
 ghost use mathlib.Core.Path.{_≡_};
-ghost use mathlib.Core.List.{[], _∷_, map};
-ghost use Prim.Native.Nat.{ℕ, _+_, _*_, _<_, _≤_};
-ghost use lib.ListN.{length};
+ghost use mathlib.Core.Bool.{true};
+ghost use mathlib.Core.List.{[], _∷_, List·Memᴰ};
+ghost use Prim.Native.Nat.{_+_, _*_, _<_, _≤_};
+ghost use lib.ListN.{length, getD};
 ghost use lib.Seq.{sets};
-ghost use Rattle.net.specs.Tables.{item-of};
-ghost use Rattle.arcs.specs.Merge.{union};
+ghost use Rattle.algebra.specs.Expr.{Expr};
+ghost use Rattle.algebra.specs.Item.{one, two};
+ghost use Rattle.algebra.specs.Places.{places};
+ghost use Rattle.algebra.specs.Transitions.{transitions};
+ghost use Rattle.algebra.specs.Arcs.{transition-of, net-of};
+ghost use Rattle.net.specs.Tables.{item-of, rows-of, arcs-of};
+ghost use Rattle.boxes.specs.ArcCounts.{item-arcs, listed-arcs};
 ghost use Rattle.arcs.specs.declared.moves.Side.the-variants.{Inputs, Outputs};
-ghost use Rattle.tables.specs.Rows.{item-at, listed-at, listed-from, Put, PutArcs, PutSide};
-ghost use Rattle.tables.specs.Lists.{told-at, list-at, Inside, item-places, ItemInside, listed-transition};
+ghost use Rattle.tables.specs.Rows.{item-at, listed-at, listed-from, told-count, told-arcs, Drafted, Whole, Asked, Placed, PlacedBoth, InOrder, MergedAt, Room, Put};
 
-// Where the inputs of a transition end in the arcs, and where its outputs end.
-pub struct Ends {
-    pub middle: usize,
-    pub end: usize,
-}
-
-// Where the index tells of an action's places on one side.
-fn told_at(side: Side, i: usize) -> usize
+// How many places an action has on one side.
+fn count_of(index: &[u16], side: Side, i: usize) -> usize
     requires { ⌜ i ≤ 65535 ⌝ }
-    ensures { λ r. ⌜ (r ≡ told-at side i) × (r ≤ 262142) ⌝ }
+    ensures { λ r. ⌜ (r ≡ told-count (now (index .entry)) side i) × (r ≤ 65535) ⌝ }
 {
     match side {
-        Side::Inputs => 4 * i,
-        Side::Outputs => 4 * i + 2,
+        Side::Inputs => wide(number_at(index, 3 * i + 1)),
+        Side::Outputs => wide(number_at(index, 3 * i + 2)),
     }
 }
 
-// The places of an action on one side.
-fn list_of<'a>(lists: &'a [u16], index: &[u16], side: Side, i: usize) -> &'a [u16]
-    requires { ⌜ Inside (now lists) (now index) side i × (i ≤ 65535) ⌝ }
-    ensures { λ r. ⌜ now r ≡ list-at (now (lists .entry)) (now (index .entry)) (told-at side i) ⌝ }
+// How many a transition has: as many as its action, or as both its actions, which share none.
+fn count_item(index: &[u16], side: Side, first: usize, second: usize) -> usize
+    requires { ⌜ (first ≤ 65535) × (second ≤ 65535) ⌝ }
+    ensures { λ r. ⌜ (r ≡ item-arcs (told-count (now (index .entry)) side) (item-of first second)) × (r ≤ 131070) ⌝ }
 {
-    let k = told_at(side, i);
-    let start = wide(number_at(index, k));
-    let end = start + wide(number_at(index, k + 1));
-    &lists[start..end]
-}
-
-// The places of a lone action go behind the arcs that are there, where there is room. Where they end is told either way.
-fn put_one(places: &[u16], arcs: &mut [u16], at: usize) -> usize
-    requires { ⌜ (at ≤ length (now arcs)) × (length (now arcs) ≤ 16384) ⌝ }
-    ensures { λ r. ⌜ PutSide (length (now (arcs .entry))) r at (now (places .entry)) (now (arcs .entry)) (now (arcs .exit)) ⌝ }
-{
-    let count = places.len();
-    let end = at + count;
-    if end <= arcs.len() {
-        put(arcs, at, places, count);
+    let count = count_of(index, side, first);
+    if second == field::NO_SECOND {
+        return count;
     }
-    end
+    count + count_of(index, side, second)
 }
 
-// Those of two actions, "both input sets and both output sets": merged behind the arcs that are there. Where there is no room a number
-// above it is told.
-fn put_two(places: &[u16], others: &[u16], arcs: &mut [u16], at: usize) -> usize
-    requires { ⌜ (at ≤ length (now arcs)) × (length (now arcs) ≤ 16384) ⌝ }
-    ensures { λ r. ⌜ PutSide (length (now (arcs .entry))) r at (union (now (places .entry)) (now (others .entry))) (now (arcs .entry)) (now (arcs .exit)) ⌝ }
+// How many arcs transition t of the list has.
+fn count_transition(index: &[u16], list: &[u16], t: usize) -> usize
+    requires { ⌜ (t < 1024) × (3 * (t + 1) ≤ length (now list)) ⌝ }
+    ensures { λ r. ⌜ (r ≡ item-arcs (told-arcs (now (index .entry))) (item-at (now (list .entry)) t)) × (r ≤ 262140) ⌝ }
 {
-    let room = arcs.len() - at;
-    let count = merge(places, others, &mut arcs[at..]);
-    if room < count {
-        return at + room + 1;
-    }
-    at + count
+    let first = wide(list[3 * t + 1]);
+    let second = wide(list[3 * t + 2]);
+    count_item(index, Side::Inputs, first, second) + count_item(index, Side::Outputs, first, second)
 }
 
-// The places on one side of a transition.
+// How many arcs all transitions of the list have.
+pub fn count_arcs(index: &[u16], list: &[u16], many: usize) -> usize
+    requires { ⌜ (many ≤ 1024) × (3 * many ≤ length (now list)) ⌝ }
+    ensures { λ r. ⌜ r ≡ listed-arcs (told-arcs (now (index .entry))) (listed-from (now (list .entry)) 0 many) ⌝ }
+{
+    let mut count = 0;
+    let mut t = 0;
+    while t < many {
+        count += count_transition(index, list, t);
+        t += 1;
+    }
+    count
+}
+
+// The node that an action is, whose lists say where the action's places stand.
+fn node_of(index: &[u16], i: usize) -> usize
+    requires { ⌜ i ≤ 65535 ⌝ }
+    ensures { λ r. ⌜ (r ≡ getD (now (index .entry)) (3 * i) 0) × (r ≤ 65535) ⌝ }
+{
+    wide(number_at(index, 3 * i))
+}
+
+// The first of an action's places on one side.
+fn first_place(lists: &[u16], index: &[u16], side: Side, i: usize) -> u16
+    requires { ⌜ i ≤ 65535 ⌝ }
+{
+    number_at(lists, place_of(side, node_of(index, i)))
+}
+
+// The places of an action on one side, into a part of the arcs that is as long as they are many.
+fn put_one(lists: &[u16], index: &[u16], i: usize, side: Side, part: &mut [u16])
+    requires { ⌜ (i ≤ 65535) × (length (now part) ≤ 65536) ⌝ }
+    ensures { λ _. ⌜ Placed (now (lists .entry)) (now (index .entry)) side (one i) (now (part .entry)) (now (part .exit)) ⌝ }
+{
+    put_places(lists, node_of(index, i), side, part);
+}
+
+// Whether the number before place m is below the one there.
+fn is_in_order(part: &[u16], m: usize) -> bool
+    ensures { λ r. ⌜ (r ≡ true → InOrder (now (part .entry)) m) ⌝ }
+{
+    if m == 0 {
+        return false;
+    }
+    number_at(part, m - 1) < number_at(part, m)
+}
+
+// Two lists that stand one behind the other, the second from place m on, merged into a part.
+fn merge_from(both: &[u16], m: usize, part: &mut [u16])
+    requires { ⌜ (m ≤ length (now both)) × (length (now part) ≡ length (now both)) ⌝ }
+    ensures { λ _. ⌜ MergedAt m (now (both .entry)) (now (part .exit)) ⌝ }
+{
+    merge(&both[..m], &both[m..], part);
+}
+
+// The two lists of a part, merged by way of work room that is long enough.
+fn merge_by(part: &mut [u16], m: usize, spare: &mut [u16])
+    requires { ⌜ (m ≤ length (now part)) × (length (now part) ≤ length (now spare)) ⌝ }
+    ensures { λ _. ⌜ MergedAt m (now (part .entry)) (now (part .exit)) ⌝ }
+{
+    let n = part.len();
+    put(spare, 0, part, n);
+    merge_from(&spare[..n], m, part);
+}
+
+// The same with work room of its own.
+fn merge_alone(part: &mut [u16], m: usize)
+    requires { ⌜ (m ≤ length (now part)) × (length (now part) ≤ 2048) ⌝ }
+    ensures { λ _. ⌜ MergedAt m (now (part .entry)) (now (part .exit)) ⌝ }
+{
+    let mut spare = [0u16; field::PLACE_LIMIT];
+    merge_by(part, m, &mut spare);
+}
+
+// The places of two actions, those of the first before those of the second. Where the second's are all above them they rise as they
+// stand; else they are merged.
+fn put_both(
+    lists: &[u16],
+    index: &[u16],
+    i: usize,
+    j: usize,
+    side: Side,
+    part: &mut [u16],
+    spare: &mut [u16],
+)
+    requires { ⌜ (i ≤ 65535) × (j ≤ 65535) × (length (now part) ≡ told-count (now index) side i + told-count (now index) side j) × (length (now part) ≤ 2048) ⌝ }
+    ensures { λ _. ⌜ Placed (now (lists .entry)) (now (index .entry)) side (two i j) (now (part .entry)) (now (part .exit)) ⌝ }
+{
+    let m = count_of(index, side, i);
+    put_one(lists, index, i, side, &mut part[..m]);
+    put_one(lists, index, j, side, &mut part[m..]);
+    if is_in_order(part, m) {
+        return;
+    }
+    if part.len() <= spare.len() {
+        merge_by(part, m, spare);
+        return;
+    }
+    merge_alone(part, m);
+}
+
+// The places of a transition on one side: "both input sets and both output sets". Of two actions the one whose first place is lower goes first.
 fn put_side(
     lists: &[u16],
     index: &[u16],
     first: usize,
     second: usize,
     side: Side,
-    arcs: &mut [u16],
-    at: usize,
-) -> usize
-    requires { ⌜ ItemInside (now lists) (now index) (item-of first second) × (first ≤ 65535) × (second ≤ 65535) × (at ≤ length (now arcs)) × (length (now arcs) ≤ 16384) ⌝ }
-    ensures { λ r. ⌜ PutSide (length (now (arcs .entry))) r at (item-places (now (lists .entry)) (now (index .entry)) side (item-of first second)) (now (arcs .entry)) (now (arcs .exit)) ⌝ }
+    part: &mut [u16],
+    spare: &mut [u16],
+)
+    requires { ⌜ (first ≤ 65535) × (second ≤ 65535) × (length (now part) ≡ item-arcs (told-count (now index) side) (item-of first second)) × (length (now part) ≤ 2048) ⌝ }
+    ensures { λ _. ⌜ Placed (now (lists .entry)) (now (index .entry)) side (item-of first second) (now (part .entry)) (now (part .exit)) ⌝ }
 {
     if second == field::NO_SECOND {
-        return put_one(list_of(lists, index, side, first), arcs, at);
+        put_one(lists, index, first, side, part);
+        return;
     }
-    let places = list_of(lists, index, side, first);
-    let others = list_of(lists, index, side, second);
-    put_two(places, others, arcs, at)
+    if first_place(lists, index, side, first) < first_place(lists, index, side, second) {
+        put_both(lists, index, first, second, side, part, spare);
+        return;
+    }
+    put_both(lists, index, second, first, side, part, spare);
 }
 
-// The inputs and then the outputs of a transition.
+// The inputs of a transition and behind them its outputs, into its part of the arcs.
 fn put_arcs(
     lists: &[u16],
     index: &[u16],
     first: usize,
     second: usize,
-    arcs: &mut [u16],
-    at: usize,
-) -> Ends
-    requires { ⌜ ItemInside (now lists) (now index) (item-of first second) × (first ≤ 65535) × (second ≤ 65535) × (at ≤ length (now arcs)) × (length (now arcs) ≤ 16384) ⌝ }
-    ensures { λ r. ⌜ PutArcs (length (now (arcs .entry))) (r .middle) (r .end) at (item-places (now (lists .entry)) (now (index .entry)) Inputs (item-of first second)) (item-places (now (lists .entry)) (now (index .entry)) Outputs (item-of first second)) (now (arcs .entry)) (now (arcs .exit)) ⌝ }
+    inputs: usize,
+    part: &mut [u16],
+    spare: &mut [u16],
+)
+    requires { ⌜ (first ≤ 65535) × (second ≤ 65535) × (inputs ≡ item-arcs (told-count (now index) Inputs) (item-of first second)) × (length (now part) ≡ inputs + item-arcs (told-count (now index) Outputs) (item-of first second)) × (inputs ≤ 2048) × (length (now part) ≤ inputs + 2048) ⌝ }
+    ensures { λ _. ⌜ PlacedBoth (now (lists .entry)) (now (index .entry)) (item-of first second) (now (part .exit)) ⌝ }
 {
-    let middle = put_side(lists, index, first, second, Side::Inputs, arcs, at);
-    if arcs.len() < middle {
-        return Ends {
-            middle: middle,
-            end: middle,
-        };
-    }
-    let end = put_side(lists, index, first, second, Side::Outputs, arcs, middle);
-    Ends {
-        middle: middle,
-        end: end,
-    }
+    put_side(
+        lists,
+        index,
+        first,
+        second,
+        Side::Inputs,
+        &mut part[..inputs],
+        spare,
+    );
+    put_side(
+        lists,
+        index,
+        first,
+        second,
+        Side::Outputs,
+        &mut part[inputs..],
+        spare,
+    );
 }
 
 // Row t of the transitions.
@@ -137,8 +232,8 @@ fn put_row(
     put(rows, 6 * t, &row, 6);
 }
 
-// Transition t of the list: its arcs behind those that are there, and its row. Answers where its arcs end.
-pub fn put_transition(
+// Transition t of the list: its arcs, and its row. Answers where its arcs end.
+fn put_transition(
     lists: &[u16],
     index: &[u16],
     list: &[u16],
@@ -146,53 +241,52 @@ pub fn put_transition(
     rows: &mut [u16],
     arcs: &mut [u16],
     at: usize,
+    spare: &mut [u16],
 ) -> usize
-    requires { ⌜ ItemInside (now lists) (now index) (item-at (now list) t) × (t < 1024) × (6 * (t + 1) ≤ length (now rows)) × (3 * (t + 1) ≤ length (now list)) × (at ≤ length (now arcs)) × (length (now arcs) ≤ 16384) ⌝ }
-    ensures { λ r. ⌜ Put (length (now (arcs .entry))) r t at (listed-transition (now (lists .entry)) (now (index .entry)) (listed-at (now (list .entry)) t) ∷ []) (now (rows .entry)) (now (rows .exit)) (now (arcs .entry)) (now (arcs .exit)) ⌝ }
+    requires { ⌜ Room (now index) (now list) t at (now rows) (now arcs) ⌝ }
+    ensures ends { λ r. ⌜ r ≡ at + item-arcs (told-arcs (now (index .entry))) (item-at (now (list .entry)) t) ⌝ }
+    ensures puts { λ r. ⌜ ((E : Expr) → Drafted (now (lists .entry)) (now (index .entry)) E → List·Memᴰ (listed-at (now (list .entry)) t) (transitions 0 E) → Put t at (transition-of (places 0 E) (listed-at (now (list .entry)) t)) (now (rows .entry)) (now (rows .exit)) (now (arcs .entry)) (now (arcs .exit))) ⌝ }
 {
     let label = list[3 * t];
     let first = list[3 * t + 1];
     let second = list[3 * t + 2];
-    let ends = put_arcs(lists, index, wide(first), wide(second), arcs, at);
-    let middle = ends.middle;
-    let end = ends.end;
-    if end <= arcs.len() {
-        put_row(
-            rows,
-            t,
-            label,
-            first,
-            second,
-            at as u16,
-            (middle - at) as u16,
-            (end - middle) as u16,
-        );
-    }
+    let i = wide(first);
+    let j = wide(second);
+    let inputs = count_item(index, Side::Inputs, i, j);
+    let outputs = count_item(index, Side::Outputs, i, j);
+    let end = at + inputs + outputs;
+    put_arcs(lists, index, i, j, inputs, &mut arcs[at..end], spare);
+    put_row(
+        rows,
+        t,
+        label,
+        first,
+        second,
+        at as u16,
+        inputs as u16,
+        outputs as u16,
+    );
     end
 }
 
-// All transitions of the list, where the lists have the places of every action. Answers where the arcs end, or a number above the room for
-// arcs as soon as they pass it.
-pub fn put_listed(
+// All transitions of the list. `spare` is work room of any length.
+pub fn put_transitions(
     lists: &[u16],
     index: &[u16],
     list: &[u16],
     many: usize,
     rows: &mut [u16],
     arcs: &mut [u16],
-) -> usize
-    requires { ⌜ ((t : ℕ) → t < many → ItemInside (now lists) (now index) (item-at (now list) t)) × (many ≤ 1024) × (6 * many ≤ length (now rows)) × (3 * many ≤ length (now list)) × (length (now arcs) ≤ 16384) ⌝ }
-    ensures { λ r. ⌜ Put (length (now (arcs .entry))) r 0 0 (map (listed-transition (now (lists .entry)) (now (index .entry))) (listed-from (now (list .entry)) 0 many)) (now (rows .entry)) (now (rows .exit)) (now (arcs .entry)) (now (arcs .exit)) ⌝ }
+    spare: &mut [u16],
+)
+    requires { ⌜ Asked (now lists) (now index) (now list) many (now rows) (now arcs) ⌝ }
+    ensures rows { λ _. ⌜ ((E : Expr) → Whole (now (lists .entry)) (now (index .entry)) (now (list .entry)) many E → now (rows .exit) ≡ sets (now (rows .entry)) 0 (rows-of (net-of E))) ⌝ }
+    ensures arcs { λ _. ⌜ ((E : Expr) → Whole (now (lists .entry)) (now (index .entry)) (now (list .entry)) many E → now (arcs .exit) ≡ sets (now (arcs .entry)) 0 (arcs-of (net-of E))) ⌝ }
 {
     let mut t = 0;
     let mut at = 0;
     while t < many {
-        let end = put_transition(lists, index, list, t, rows, arcs, at);
-        if arcs.len() < end {
-            return end;
-        }
-        at = end;
+        at = put_transition(lists, index, list, t, rows, arcs, at, spare);
         t += 1;
     }
-    at
 }

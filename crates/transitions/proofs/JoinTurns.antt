@@ -8,6 +8,7 @@ use mathlib.Core.Bool.{Bool, true, false, cond}
 use mathlib.Core.List.{List, [], _∷_, _++_}
 use lib.ListN.{length, getD, drop, length-append, drop-of-length-le}
 use lib.Seq.{drop-cons, getD-take}
+use Rattle.transitions.specs.Numbers.{most}
 use Rattle.transitions.specs.Listing.{Stored, Found, Held, pairs, pairs-with, pairs-of, joined-pair}
 use Rattle.transitions.proofs.StillToCome.{Left, all-held, one-stored, some-held}
 use Rattle.transitions.proofs.Weights.{pairs-with-all, pairs-of-all}
@@ -59,7 +60,7 @@ module _ (part : ℕ → ℕ → Bool) where
     pub none-joined : {j : ℕ} → u < count → j ≡ getD others u 0 → part i j ≡ false → Now list so-far u → Now list so-far (u + 1)
     none-joined h e p w = subst (λ q. Left entry n list so-far (pairs-with part i js) q) (next false h e p) w
 
-    pub no-room : {j : ℕ} → u < count → j ≡ getD others u 0 → part i j ≡ true → {room : ℕ} → room ≤ so-far → Now list so-far u → room < n + (0 + pairs (pairs-with part i js))
+    pub no-room : {j : ℕ} → u < count → j ≡ getD others u 0 → part i j ≡ true → most ≤ so-far → Now list so-far u → most < n + (0 + pairs (pairs-with part i js))
     no-room h e p full w = omega (arith, w .count, ap length (next true h e p), pairs-with-all part i js)
 
     pub all-joined : count ≤ u → Now list so-far u → Held so-far n (pairs-with part i js) entry list
@@ -80,7 +81,7 @@ module _ (part : ℕ → ℕ → Bool) where
     one-more-joined {i} h e s w =
         some-held (pairs-with part i js) (pairs-of part (drop (t + 1) is) js) (subst (λ q. Left entry n list so-far (pairs-of part is js) q) (of-next h e) w) s
 
-    pub no-more-room : {i room : ℕ} → t < count → i ≡ getD left t 0 → room < so-far + (0 + pairs (pairs-with part i js)) → Joins list so-far t → room < n + (0 + pairs (pairs-of part is js))
+    pub no-more-room : {i : ℕ} → t < count → i ≡ getD left t 0 → most < so-far + (0 + pairs (pairs-with part i js)) → Joins list so-far t → most < n + (0 + pairs (pairs-of part is js))
     no-more-room {i} h e full w =
         omega (
           arith,

@@ -7,5 +7,5 @@ pub mod StillToCome
 pub mod ScopeTurns
 pub mod JoinTurns
 pub mod ScopeCloses
-pub mod ListedOperands
+pub mod NodeTurns
 pub mod WholeLists

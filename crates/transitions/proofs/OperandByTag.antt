@@ -8,7 +8,7 @@ use mathlib.Core.List.{List}
 use lib.ListN.{length, List·getD-eq-default}
 use borrow.Author.Tests.{ne-eqb, lt-ltb, le-ltb, le-leb, lt-leb}
 use Rattle.plan.specs.Table.{tag-at, after-at}
-use Rattle.transitions.specs.Parting.{first-at, operand-by}
+use Rattle.transitions.specs.Parting.{first-at, operand-by, SameOperand}
 
 module _ (rows : List ℕ) (k i : ℕ) {tag : ℕ} (read : tag ≡ tag-at rows k) where
   -- A row with a tag stands in the table.
@@ -61,3 +61,24 @@ module _ (rows : List ℕ) (k i : ℕ) {tag : ℕ} (read : tag ≡ tag-at rows k
           unfolding operand-by
           last-operand h =
               rw (more ∙ t, first-is, le-ltb i first behind, third-is, sym l, le-ltb i last h) refl
+
+-- From j to before the next operand every action is in the operand that holds j.
+module _ (rows : List ℕ) (k j : ℕ) {second first : ℕ} (s : second ≡ after-at rows (k + 1)) (f : first ≡ first-at rows second) where
+  begins : first-at rows (after-at rows (k + 1)) ≡ first
+  begins = ap (first-at rows) (sym s) ∙ sym f
+
+  pub same-first : j < first → SameOperand rows k j first
+  unfolding operand-by
+  same-first h m lo hi = rw (begins, lt-ltb m first hi, lt-ltb j first h) refl
+
+  module _ (behind : first ≤ j) {third last : ℕ} (u : third ≡ after-at rows second) (l : last ≡ first-at rows third) where
+    ends : first-at rows (after-at rows (after-at rows (k + 1))) ≡ last
+    ends = ap (λ q. first-at rows (after-at rows q)) (sym s) ∙ ap (first-at rows) (sym u) ∙ sym l
+
+    pub same-second : j < last → SameOperand rows k j last
+    unfolding operand-by
+    same-second h m lo hi = rw (begins, ends, le-ltb m first (omega arith), le-ltb j first behind, lt-ltb m last hi, lt-ltb j last h) refl
+
+    pub same-last : last ≤ j → (until : ℕ) → SameOperand rows k j until
+    unfolding operand-by
+    same-last h until m lo hi = rw (begins, ends, le-ltb m first (omega arith), le-ltb j first behind, le-ltb m last (omega arith), le-ltb j last h) refl

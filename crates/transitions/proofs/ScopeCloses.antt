@@ -12,7 +12,6 @@ use Rattle.plan.specs.Nodes.{numbers, nodes}
 use Rattle.plan.specs.Table.{Node}
 use Rattle.plan.proofs.NodeTable.{scope-operand}
 use Rattle.transitions.specs.Listing.{Part, Found, Held, Lists, firsts, pairs-of}
-use Rattle.transitions.specs.declared.Filling.{Filling}
 use Rattle.transitions.proofs.JoinedPairs.{joined-pairs}
 use Rattle.transitions.proofs.Weights.{kept-weight, firsts-few}
 use Rattle.transitions.proofs.StillToCome.{held-then}
@@ -21,14 +20,14 @@ node-byte : {rows : List ℕ} {count k i at a : ℕ} {E : Expr} → Node rows co
 unfolding nodes numbers
 node-byte n = n .rows-of 1 (omega arith)
 
-module _ (rows : List ℕ) (k start end : ℕ) (list : List ℕ) {name lefts rights so-far : ℕ} {left right middle : List ℕ} (exit : List ℕ) (room : ℕ) (r : Filling)
+module _ (rows : List ℕ) (k start end : ℕ) (list : List ℕ) {name lefts rights so-far r : ℕ} {left right middle exit : List ℕ}
     (byte : name ≡ getD rows (6 * k + 1) 0)
     (gathers : (ts : List Labelled) → Part list start end ts → length (firsts name ts) ≤ 256 → Found lefts left (firsts name ts))
     (gathers-too : (ts : List Labelled) → Part list start end ts → length (firsts (name + 128) ts) ≤ 256 → Found rights right (firsts (name + 128) ts))
     (keeps : (ts : List Labelled) → Part list start end ts → Held so-far start (kept name ts) list middle)
-    (joins : (count f at : ℕ) (E : Expr) (is js : List ℕ) → Node rows count (k + 1) f at E → Found lefts left is → Found rights right js → Lists r room so-far 0 (pairs-of (part-at-parallel f E) is js) middle exit) where
+    (joins : (count f at : ℕ) (E : Expr) (is js : List ℕ) → Node rows count (k + 1) f at E → Found lefts left is → Found rights right js → Lists r so-far 0 (pairs-of (part-at-parallel f E) is js) middle exit) where
   closed-by-name : (count i at : ℕ) (E : Expr) → Node rows count k i at (scope name E) → 1 ≤ name → actions E ≤ 256 → Part list start end (transitions i E)
-      → Lists r room start (actions E) (transitions i (scope name E)) list exit
+      → Lists r start (actions E) (transitions i (scope name E)) list exit
   unfolding transitions
   closed-by-name count i at E n named few p =
       let ts = transitions i E in
@@ -36,13 +35,13 @@ module _ (rows : List ℕ) (k start end : ℕ) (list : List ℕ) {name lefts rig
       let hi = firsts-few name named (name + 128) (omega arith) i E in
       let both = joins count i (at + 4) E (firsts name ts) (firsts (name + 128) ts) (scope-operand rows count E n) (gathers ts p (omega arith)) (gathers-too ts p (omega arith)) in
       let none : actions E + 0 ≡ actions E = omega arith in
-      subst (λ few. Lists r room start few (kept name ts ++ joined i E name ts) list exit) none
-      (subst (λ q. Lists r room start (actions E + 0) (kept name ts ++ q) list exit) (sym (joined-pairs i E name ts))
-      (held-then r room (actions E) 0 (kept name ts) _ exit (keeps ts p) (kept-weight i name E) both))
+      subst (λ few. Lists r start few (kept name ts ++ joined i E name ts) list exit) none
+      (subst (λ q. Lists r start (actions E + 0) (kept name ts ++ q) list exit) (sym (joined-pairs i E name ts))
+      (held-then (actions E) 0 (kept name ts) _ (keeps ts p) (kept-weight i name E) both))
 
   pub closed : (count i at a : ℕ) (E : Expr) → Node rows count k i at (scope a E) → ScopesNamed (scope a E) → actions E ≤ 256 → Part list start end (transitions i E)
-      → Lists r room start (actions E) (transitions i (scope a E)) list exit
+      → Lists r start (actions E) (transitions i (scope a E)) list exit
   closed count i at a E n named few p =
       let e : name ≡ a = byte ∙ node-byte n in
-      subst (λ b. Lists r room start (actions E) (transitions i (scope b E)) list exit) e
+      subst (λ b. Lists r start (actions E) (transitions i (scope b E)) list exit) e
       (closed-by-name count i at E (subst (λ b. Node rows count k i at (scope b E)) (sym e) n) (omega (arith, named .0)) few p)

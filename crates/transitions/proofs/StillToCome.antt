@@ -2,15 +2,13 @@
 -- True because a transition that is stored behind those that the list holds was the first of those to come.
 use Prim.Native.Nat.{ℕ, _+_, _*_, _≤_, _<_}
 use native.Mathlib.Omega.{arith}
-use mathlib.Core.Path.{_≡_, refl, sym, _∙_, ap, subst}
+use mathlib.Core.Path.{_≡_, refl, sym, _∙_, ap}
 use mathlib.Core.List.{List, [], _∷_, _++_, append-assoc, append-nil}
 use lib.ListN.{length, take, length-append}
 use Rattle.algebra.specs.Item.{first}
 use Rattle.algebra.specs.Transitions.{Labelled}
-use Rattle.transitions.specs.Numbers.{flat, second}
-use Rattle.transitions.specs.Listing.{Within, Stored, Held, Lists, pairs}
-use Rattle.transitions.specs.declared.Filling.{Filling}
-use Rattle.transitions.specs.declared.Filling.the-variants.{Many, Full}
+use Rattle.transitions.specs.Numbers.{flat, second, most}
+use Rattle.transitions.specs.Listing.{Stored, Held, Lists, pairs}
 use Rattle.transitions.proofs.FlatNumbers.{flat-append}
 use Rattle.transitions.proofs.Weights.{pairs-append}
 
@@ -54,29 +52,26 @@ module _ {entry list : List ℕ} {n₀ n : ℕ} {all : List Labelled} where
     long = h .long ∙ w .long;
   }
 
+-- What is told of a list: how many it holds, or that the most are too few.
+module _ {m n few : ℕ} {ts : List Labelled} {entry exit : List ℕ} where
+  pub is-held : m ≤ most → Held m n ts entry exit → Lists m n few ts entry exit
+  is-held l h = record { held = λ q. h; over = λ q. absurd (omega arith) }
+
+  pub is-over : most < m → most < n + (few + pairs ts) → Lists m n few ts entry exit
+  is-over l h = record { held = λ q. absurd (omega arith); over = λ q. h }
+
 -- Lists one after another: of the first and of the rest.
-pub held-then : (r : Filling) (room : ℕ) {m n : ℕ} (few more : ℕ) (xs ys : List Labelled) {entry list : List ℕ} (exit : List ℕ) → Held m n xs entry list → length xs ≤ few + pairs xs
-    → Lists r room m more ys list exit → Lists r room n (few + more) (xs ++ ys) entry exit
-held-then (Many k) room {m} {n} few more xs ys {entry} {list} exit h small l = record {
-  count = omega (arith, h .count, l .count, length-append xs ys);
-  numbers =
-      l .numbers
-      ∙ ap (λ q. q ++ flat ys) (h .numbers)
-      ∙ append-assoc (take (3 * n) entry) (flat xs) (flat ys)
-      ∙ ap (λ q. take (3 * n) entry ++ q) (sym (flat-append xs ys));
-  long = l .long ∙ h .long;
-}
-held-then Full room few more xs ys exit h small l = omega (arith, h .count, pairs-append xs ys)
-
-pub full-then : (room n few more : ℕ) (xs ys : List Labelled) → room < n + (few + pairs xs) → room < n + (few + more + pairs (xs ++ ys))
-full-then room n few more xs ys h = omega (arith, pairs-append xs ys)
-
--- An answer that is taken apart.
-pub many-held : {r : Filling} {m : ℕ} → r ≡ Many m → (room n few : ℕ) (ts : List Labelled) (entry exit : List ℕ) → Lists r room n few ts entry exit → Held m n ts entry exit
-many-held e room n few ts entry exit l = subst (λ q. Lists q room n few ts entry exit) e l
-
-pub is-full : {r : Filling} → r ≡ Full → (room n few : ℕ) (ts : List Labelled) (entry exit : List ℕ) → Lists r room n few ts entry exit → room < n + (few + pairs ts)
-is-full e room n few ts entry exit l = subst (λ q. Lists q room n few ts entry exit) e l
-
-pub many-fit : {r : Filling} {m : ℕ} → r ≡ Many m → (room : ℕ) → Within r room → m ≤ room
-many-fit e room f = subst (λ q. Within q room) e f
+pub held-then : {r m n : ℕ} (few more : ℕ) (xs ys : List Labelled) {entry list exit : List ℕ} → Held m n xs entry list → length xs ≤ few + pairs xs
+    → Lists r m more ys list exit → Lists r n (few + more) (xs ++ ys) entry exit
+held-then {r} {m} {n} few more xs ys {entry} {list} {exit} h small l = record { held = λ q. both (l .held q); over = λ q. omega (arith, l .over q, h .count, pairs-append xs ys) }
+  where
+    both : Held r m ys list exit → Held r n (xs ++ ys) entry exit
+    both g = record {
+      count = omega (arith, h .count, g .count, length-append xs ys);
+      numbers =
+          g .numbers
+          ∙ ap (λ q. q ++ flat ys) (h .numbers)
+          ∙ append-assoc (take (3 * n) entry) (flat xs) (flat ys)
+          ∙ ap (λ q. take (3 * n) entry ++ q) (sym (flat-append xs ys));
+      long = g .long ∙ h .long;
+    }

@@ -1,86 +1,94 @@
--- Operands are listed one after another, and a plan is listed as its one operand.
--- True because an operand's nodes end where those of the next begin, and what is listed of one stands before what is listed of the next.
+-- A scope is listed as its one operand and then closed, and a plan is listed as its one operand.
+-- True because the operand's nodes follow the scope's own, and because no scope takes a pair away.
 use Prim.Native.Nat.{ℕ, _+_, _*_, _≤_, _<_}
 use native.Mathlib.Omega.{arith}
-use mathlib.Core.Path.{_≡_, refl, sym, _∙_, ap, subst}
+use native.Mathlib.Decide.{decLe}
+use mathlib.Core.Path.{_≡_, sym, _∙_, ap, subst}
 use mathlib.Core.List.{List, [], _∷_, _++_, append-nil}
-use lib.ListN.{length, take}
-use lib.Seq.{take-take}
+use lib.ListN.{length, getD, take}
+use lib.Seq.{getD-take, getD-append-add, length-take-le, take-take, take-at}
 use Rattle.field.specs.Limits.{transition-limit}
-use Rattle.algebra.specs.Expr.{Expr, actions}
+use Rattle.algebra.specs.Expr.{Expr, scope, actions}
 use Rattle.algebra.specs.Scopes.{ScopesNamed}
-use Rattle.algebra.specs.Transitions.{transitions}
+use Rattle.algebra.specs.Transitions.{Labelled, transitions}
 use Rattle.plan.specs.Nodes.{node-count}
-use Rattle.plan.specs.Table.{Table, Node, after-at}
-use Rattle.plan.proofs.NodeTable.{node-says}
-use Rattle.plan.proofs.NodeValues.{node-count-positive, table-node}
+use Rattle.plan.specs.Table.{Table, Node}
+use Rattle.plan.proofs.NodeTable.{scope-operand}
+use Rattle.plan.proofs.NodeValues.{table-node}
 use Rattle.transitions.specs.Numbers.{flat, most}
-use Rattle.transitions.specs.Listing.{Held, Lists, pairs, Operands, AllNamed, all-actions, all-transitions}
-use Rattle.transitions.specs.declared.Filling.{Filling}
-use Rattle.transitions.specs.declared.Filling.the-variants.{Many, Full}
-use Rattle.transitions.proofs.Weights.{transitions-weight, pairs-within}
-use Rattle.transitions.proofs.StillToCome.{held-then, full-then, many-held, is-full}
+use Rattle.transitions.specs.Listing.{Part, Held, Lists, pairs, Operands, AllNamed, all-actions, all-transitions}
+use Rattle.transitions.proofs.FlatNumbers.{flat-length}
+use Rattle.transitions.proofs.Weights.{scope-pairs, pairs-within}
+use Rattle.transitions.proofs.StillToCome.{is-over}
 
-operands-within : (rows : List ℕ) (count k end i : ℕ) (Es : List Expr) → Operands rows count k end i Es → k ≤ end
-operands-within rows count k end i [] o = omega arith
-operands-within rows count k end i (E ∷ Es) o = omega (arith, operands-within rows count (k + node-count E) end (i + actions E) Es (o .1))
+-- ---- the part of a list that is held
 
--- No operand is left.
-pub none-listed : (rows : List ℕ) (count k end i : ℕ) (Es : List Expr) → end ≤ k → Operands rows count k end i Es → (n : ℕ) (list : List ℕ) → Held n n (all-transitions i Es) list list
-unfolding all-transitions flat
-none-listed rows count k end i [] h o n list = record { count = omega arith; numbers = sym (append-nil (take (3 * n) list)); long = refl }
-none-listed rows count k end i (E ∷ Es) h o n list =
-    absurd (omega (arith, operands-within rows count (k + node-count E) end (i + actions E) Es (o .1), node-count-positive E))
+module _ {m n : ℕ} {ts : List Labelled} {entry exit : List ℕ} (h : Held m n ts entry exit) (room : 3 * n ≤ length entry) where
+  front : length (take (3 * n) entry) ≡ 3 * n
+  front = length-take-le (3 * n) entry room
 
--- Where the first operand ends.
-pub operand-inside : (rows : List ℕ) (count k end i : ℕ) (Es : List Expr) {after : ℕ} → k < end → after ≡ after-at rows k → Operands rows count k end i Es → (k < after) × (after ≤ end)
-operand-inside rows count k end i [] h e o = absurd (omega arith)
-operand-inside rows count k end i (E ∷ Es) {after} h e o =
-    let a : after ≡ k + node-count E = e ∙ node-says rows count E (o .0 .1) .after in
-    (omega (arith, node-count-positive E), omega (arith, operands-within rows count (k + node-count E) end (i + actions E) Es (o .1)))
+  held-part : Part exit n m ts
+  held-part = record { count = h .count; stands = λ j l. stands j l }
+    where
+      stands : (j : ℕ) → j < length (flat ts) → getD exit (3 * n + j) 0 ≡ getD (flat ts) j 0
+      stands j l =
+          sym (getD-take (3 * m) exit (3 * n + j) 0 (omega (arith, flat-length ts, h .count)))
+          ∙ ap (λ q. getD q (3 * n + j) 0) (h .numbers)
+          ∙ ap (λ p. getD (take (3 * n) entry ++ flat ts) (p + j) 0) (sym front)
+          ∙ getD-append-add (take (3 * n) entry) (flat ts) j 0
 
-module _ (rows : List ℕ) (count k end room n : ℕ) (list : List ℕ) {after : ℕ} (more : k < end) (e : after ≡ after-at rows k) (first : Filling) (middle : List ℕ)
-    (lists : (count i at : ℕ) (E : Expr) → Node rows count k i at E → after ≡ k + node-count E → ScopesNamed E → actions E ≤ 256 → Lists first room n (actions E) (transitions i E) list middle) where
-  -- What is listed of the first operand.
-  of-first : (i at : ℕ) (E : Expr) (Es : List Expr) → Node rows count k i at E → ScopesNamed E → all-actions (E ∷ Es) ≤ 256 → Lists first room n (actions E) (transitions i E) list middle
-  unfolding all-actions
-  of-first i at E Es w named few = lists count i at E w (e ∙ node-says rows count E w .after) named (omega arith)
+  held-front : take (3 * n) exit ≡ take (3 * n) entry
+  held-front =
+      sym (take-take (3 * n) (3 * m) exit (omega (arith, h .count)))
+      ∙ ap (take (3 * n)) (h .numbers)
+      ∙ take-at (take (3 * n) entry) (flat ts) (3 * n) front
 
-  pub full-listed : first ≡ Full → (i : ℕ) (Es : List Expr) → Operands rows count k end i Es → AllNamed Es → all-actions Es ≤ 256
-      → room < n + (all-actions Es + pairs (all-transitions i Es))
-  unfolding all-actions all-transitions
-  full-listed f i [] o named few = absurd (omega arith)
-  full-listed f i (E ∷ Es) o named few =
-      full-then room n (actions E) (all-actions Es) (transitions i E) (all-transitions (i + actions E) Es)
-      (is-full f room n (actions E) (transitions i E) list middle (of-first i (o .0 .0) E Es (o .0 .1) (named .0) few))
+  lists-from : {r few : ℕ} {us : List Labelled} {last : List ℕ} → Lists r n few us exit last → Lists r n few us entry last
+  lists-from {us = us} l = record {
+    held = λ q. let k = l .held q in record { count = k .count; numbers = k .numbers ∙ ap (λ p. p ++ flat us) held-front; long = k .long ∙ h .long };
+    over = l .over;
+  }
 
-  pub all-listed : {m : ℕ} → first ≡ Many m → (rest : Filling) (exit : List ℕ)
-      → ((count i : ℕ) (Es : List Expr) → Operands rows count after end i Es → AllNamed Es → all-actions Es ≤ 256 → Lists rest room m (all-actions Es) (all-transitions i Es) middle exit)
-      → (i : ℕ) (Es : List Expr) → Operands rows count k end i Es → AllNamed Es → all-actions Es ≤ 256 → Lists rest room n (all-actions Es) (all-transitions i Es) list exit
-  unfolding all-actions all-transitions
-  all-listed f rest exit lists-rest i [] o named few = absurd (omega arith)
-  all-listed {m} f rest exit lists-rest i (E ∷ Es) o named few =
-      let h : Held m n (transitions i E) list middle = many-held f room n (actions E) (transitions i E) list middle (of-first i (o .0 .0) E Es (o .0 .1) (named .0) few) in
-      let a : k + node-count E ≡ after = sym (e ∙ node-says rows count E (o .0 .1) .after) in
-      held-then rest room (actions E) (all-actions Es) (transitions i E) (all-transitions (i + actions E) Es) exit h (transitions-weight i E)
-      (lists-rest count (i + actions E) Es (subst (λ q. Operands rows count q end (i + actions E) Es) a (o .1)) (named .1) (omega arith))
+-- ---- a scope
+
+module _ (rows : List ℕ) (count k i at a : ℕ) (E : Expr) (node : Node rows count k i at (scope a E)) {after : ℕ} (ends : after ≡ k + node-count (scope a E)) (named : ScopesNamed (scope a E)) (few : actions E ≤ 256)
+    (n : ℕ) {entry middle : List ℕ} {m : ℕ}
+    (lists : (count i : ℕ) (Es : List Expr) → Operands rows count (k + 1) after i Es → AllNamed Es → all-actions Es ≤ 256 → Lists m n (all-actions Es) (all-transitions i Es) entry middle) where
+  operand-listed : Lists m n (actions E + 0) (transitions i E ++ []) entry middle
+  unfolding all-actions all-transitions node-count
+  operand-listed = lists count i (E ∷ []) ((at + 4, scope-operand rows count E node), omega arith) (named .1, tt) (omega arith)
+
+  pub operand-over : most < m → {exit : List ℕ} → Lists m n (actions E) (transitions i (scope a E)) entry exit
+  operand-over h = is-over h (omega (arith, operand-listed .over h, ap pairs (append-nil (transitions i E)), scope-pairs a (named .0) i E))
+
+  pub scope-closed : m ≤ most → 3 * n ≤ length entry → {r : ℕ} {exit : List ℕ}
+      → ((count i at a : ℕ) (D : Expr) → Node rows count k i at (scope a D) → ScopesNamed (scope a D) → actions D ≤ 256 → Part middle n m (transitions i D) → Lists r n (actions D) (transitions i (scope a D)) middle exit)
+      → Lists r n (actions E) (transitions i (scope a E)) entry exit
+  scope-closed h room closes =
+      let g = subst (λ ts. Held m n ts entry middle) (append-nil (transitions i E)) (operand-listed .held h) in
+      lists-from g room (closes count i at a E node named few (held-part g room))
+
+-- ---- a whole plan
 
 -- A table that is cut off behind its nodes.
 pub table-cut : {rows : List ℕ} {nodes : ℕ} {E : Expr} → Table rows nodes E → Table (take (6 * nodes) rows) nodes E
 table-cut {rows} {nodes} t = record { nodes = t .nodes; rows-of = take-take (6 * nodes) (6 * nodes) rows (omega arith) ∙ t .rows-of }
 
--- A whole plan, listed from the front.
-module _ (rows : List ℕ) (nodes : ℕ) (E : Expr) (t : Table rows nodes E) (named : ScopesNamed E) (few : actions E ≤ 256) (room : ℕ) (entry exit : List ℕ) (r : Filling)
-    (lists : (count i : ℕ) (Es : List Expr) → Operands rows count 0 nodes i Es → AllNamed Es → all-actions Es ≤ 256 → Lists r room 0 (all-actions Es) (all-transitions i Es) entry exit) where
-  whole : Lists r room 0 (actions E + 0) (transitions 0 E ++ []) entry exit
+module _ (rows : List ℕ) (nodes : ℕ) (E : Expr) (t : Table rows nodes E) (named : ScopesNamed E) (few : actions E ≤ 256) {entry exit : List ℕ} {n : ℕ}
+    (lists : (count i : ℕ) (Es : List Expr) → Operands rows count 0 nodes i Es → AllNamed Es → all-actions Es ≤ 256 → Lists n 0 (all-actions Es) (all-transitions i Es) entry exit) where
+  whole : Lists n 0 (actions E + 0) (transitions 0 E ++ []) entry exit
   unfolding all-actions all-transitions
   whole = lists nodes 0 (E ∷ []) ((0, table-node t), omega (arith, t .nodes)) (named, tt) (omega arith)
 
-  pub plan-too-many : r ≡ Full → most ≤ room → transition-limit < length (transitions 0 E)
-  plan-too-many e h =
-      omega (arith, is-full e room 0 (actions E + 0) (transitions 0 E ++ []) entry exit whole, ap pairs (append-nil (transitions 0 E)), pairs-within (transitions 0 E))
+  plan-held : n ≤ most → Held n 0 (transitions 0 E) entry exit
+  plan-held h = subst (λ ts. Held n 0 ts entry exit) (append-nil (transitions 0 E)) (whole .held h)
 
-  pub plan-listed : {n : ℕ} → r ≡ Many n → (n ≡ length (transitions 0 E)) × (take (3 * n) exit ≡ flat (transitions 0 E))
-  plan-listed {n} e =
-      let h : Held n 0 (transitions 0 E) entry exit = subst (λ ts. Held n 0 ts entry exit) (append-nil (transitions 0 E)) (many-held e room 0 (actions E + 0) (transitions 0 E ++ []) entry exit whole) in
-      (omega (arith, h .count), h .numbers)
+  pub plan-listed : n ≤ transition-limit → (n ≡ length (transitions 0 E)) × (take (3 * n) exit ≡ flat (transitions 0 E))
+  plan-listed l = let h = plan-held (omega arith) in (omega (arith, h .count), h .numbers)
+
+  pub plan-too-many : transition-limit < n → transition-limit < length (transitions 0 E)
+  plan-too-many l = go (decLe n most)
+    where
+      go : Dec (n ≤ most) → transition-limit < length (transitions 0 E)
+      go (yes h) = omega (arith, plan-held h .count)
+      go (no h) = omega (arith, whole .over (omega arith), ap pairs (append-nil (transitions 0 E)), pairs-within (transitions 0 E))

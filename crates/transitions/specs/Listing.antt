@@ -11,16 +11,6 @@ use Rattle.algebra.specs.Transitions.{Labelled, select, labelled, transitions}
 use Rattle.plan.specs.Nodes.{node-count}
 use Rattle.plan.specs.Table.{Stands, Node}
 use Rattle.transitions.specs.Numbers.{flat, most}
-use Rattle.transitions.specs.declared.Filling.{Filling}
-use Rattle.transitions.specs.declared.Filling.the-variants.{Many, Full}
-
--- The list has room for so many transitions, and more than the most are not asked for.
-abbrev pub Room : ℕ → List ℕ → Type 0
-Room room list = (room ≤ most) × (3 * room ≤ length list)
-
-abbrev pub Within : Filling → ℕ → Type 0
-Within (Many n) room = n ≤ room
-Within Full room = Unit {0}
 
 -- From one transition of the list to another stand these.
 pub record Part (list : List ℕ) (start end : ℕ) (ts : List Labelled) : Type 0 where
@@ -58,10 +48,10 @@ pub record Held (m n : ℕ) (ts : List Labelled) (entry exit : List ℕ) : Type 
   pub numbers : take (3 * m) exit ≡ take (3 * n) entry ++ flat ts
   pub long : length exit ≡ length entry
 
--- Behind the first n transitions these are listed; or the room is too little for n, for so many single actions, and for the pairs.
-abbrev pub Lists : Filling → ℕ → ℕ → ℕ → List Labelled → List ℕ → List ℕ → Type 0
-Lists (Many m) room n few ts entry exit = Held m n ts entry exit
-Lists Full room n few ts entry exit = room < n + (few + pairs ts)
+-- Behind the first n transitions these are listed; or the most are too few for n, for so many single actions, and for the pairs.
+pub record Lists (m n few : ℕ) (ts : List Labelled) (entry exit : List ℕ) : Type 0 where
+  pub held : m ≤ most → Held m n ts entry exit
+  pub over : most < m → most < n + (few + pairs ts)
 
 abbrev pub joined-pair : ℕ → ℕ → Labelled
 joined-pair i j = record { label = 0; item = two i j }

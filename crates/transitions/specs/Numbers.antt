@@ -7,7 +7,7 @@ use Rattle.field.specs.Limits.{action-limit, transition-limit}
 use Rattle.algebra.specs.Item.{Item, one, two, first}
 use Rattle.algebra.specs.Transitions.{Labelled}
 use Rattle.transitions.specs.declared.Listed.{Listed}
-use Rattle.transitions.specs.declared.Listed.the-variants.{Many, TooMany, NoRoom}
+use Rattle.transitions.specs.declared.Listed.the-variants.{Many, TooMany}
 
 -- "second action or 65,535"
 abbrev pub second : Item → ℕ
@@ -23,14 +23,12 @@ flat (t ∷ ts) = t .label ∷ (first (t .item) ∷ (second (t .item) ∷ flat t
 abbrev pub ListIs : Listed → List Labelled → List ℕ → Type 0
 ListIs (Many n) ts exit = (n ≡ length ts) × (take (3 * n) exit ≡ flat ts)
 ListIs TooMany ts exit = transition-limit < length ts
-ListIs NoRoom ts exit = Unit {0}
 
--- As many as a list needs room for while it is made.
+-- A list needs room for so many while it is made.
 abbrev pub most : ℕ
 most = action-limit + transition-limit
 
--- What is listed has room in a list of so many numbers; and only one that has not room for the most can be too short.
-abbrev pub Fits : Listed → ℕ → Type 0
-Fits (Many n) long = (3 * n ≤ long) × (n ≤ most)
-Fits TooMany long = Unit {0}
-Fits NoRoom long = long < 3 * most
+-- No more are listed than a net may have.
+abbrev pub Fits : Listed → Type 0
+Fits (Many n) = n ≤ transition-limit
+Fits TooMany = Unit {0}

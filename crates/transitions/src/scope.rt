@@ -8,8 +8,10 @@ ghost use Rattle.algebra.specs.Expr.{Expr, actions, scope};
 ghost use Rattle.algebra.specs.Scopes.{ScopesNamed};
 ghost use Rattle.algebra.specs.Transitions.{Labelled, part-at-parallel, kept, transitions};
 ghost use Rattle.plan.specs.Table.{Node};
-ghost use Rattle.transitions.specs.Listing.{Room, Within, Part, Stored, Found, Held, firsts, Lists, pairs-with, pairs-of};
-use super::Filling;
+ghost use Rattle.transitions.specs.Numbers.{most};
+ghost use Rattle.transitions.specs.Listing.{Part, Stored, Found, Held, firsts, Lists, pairs-with, pairs-of};
+use super::MOST;
+use super::OVER;
 use super::parting;
 use plan::exclusive::number_at;
 use plan::exclusive::row_number;
@@ -92,20 +94,20 @@ fn join_one(
     others: &[u16; field::ACTION_LIMIT],
     count: usize,
     list: &mut [u16],
-    room: usize,
     n: usize,
-) -> Filling
-    requires { ⌜ (k ≤ 65535) × (length (now rows) ≤ 8196) × Room room (now list) × (n ≤ room) ⌝ }
-    ensures fits { λ r. ⌜ Within r room ⌝ }
-    ensures joins { λ r. ⌜ ((nodes f at : ℕ) (E : Expr) (js : List ℕ) → Node (now (rows .entry)) nodes k f at E → Found count (now (others .entry)) js → Lists r room n 0 (pairs-with (part-at-parallel f E) i js) (now (list .entry)) (now (list .exit))) ⌝ }
+) -> usize
+    requires { ⌜ (k ≤ 65535) × (length (now rows) ≤ 8196) × (3 * most ≤ length (now list)) × (n ≤ most) ⌝ }
+    ensures { λ r. ⌜ ((nodes f at : ℕ) (E : Expr) (js : List ℕ) → Node (now (rows .entry)) nodes k f at E → Found count (now (others .entry)) js → Lists r n 0 (pairs-with (part-at-parallel f E) i js) (now (list .entry)) (now (list .exit))) ⌝ }
 {
     let mut so_far = n;
     let mut u = 0;
+    let mut parting = parting::nothing();
     while u < count {
         let j = number_at(others, u);
-        if parting::part_at_parallel(rows, k, wide(i), wide(j)) {
-            if room <= so_far {
-                return Filling::Full;
+        parting = parting::part_at(rows, k, wide(i), wide(j), parting);
+        if parting.apart {
+            if MOST <= so_far {
+                return OVER;
             }
             put(list, so_far, 0, i, j);
             so_far += 1;
@@ -114,7 +116,7 @@ fn join_one(
             u += 1;
         }
     }
-    Filling::Many(so_far)
+    so_far
 }
 
 // The same for each of some actions in turn.
@@ -126,28 +128,23 @@ fn join(
     right: &[u16; field::ACTION_LIMIT],
     rights: usize,
     list: &mut [u16],
-    room: usize,
     n: usize,
-) -> Filling
-    requires { ⌜ (k ≤ 65535) × (length (now rows) ≤ 8196) × Room room (now list) × (n ≤ room) ⌝ }
-    ensures fits { λ r. ⌜ Within r room ⌝ }
-    ensures joins { λ r. ⌜ ((nodes f at : ℕ) (E : Expr) (is js : List ℕ) → Node (now (rows .entry)) nodes k f at E → Found lefts (now (left .entry)) is → Found rights (now (right .entry)) js → Lists r room n 0 (pairs-of (part-at-parallel f E) is js) (now (list .entry)) (now (list .exit))) ⌝ }
+) -> usize
+    requires { ⌜ (k ≤ 65535) × (length (now rows) ≤ 8196) × (3 * most ≤ length (now list)) × (n ≤ most) ⌝ }
+    ensures { λ r. ⌜ ((nodes f at : ℕ) (E : Expr) (is js : List ℕ) → Node (now (rows .entry)) nodes k f at E → Found lefts (now (left .entry)) is → Found rights (now (right .entry)) js → Lists r n 0 (pairs-of (part-at-parallel f E) is js) (now (list .entry)) (now (list .exit))) ⌝ }
 {
     let mut so_far = n;
     let mut t = 0;
     while t < lefts {
         let i = number_at(left, t);
-        match join_one(rows, k, i, right, rights, list, room, so_far) {
-            Filling::Full => {
-                return Filling::Full;
-            }
-            Filling::Many(m) => {
-                so_far = m;
-                t += 1;
-            }
+        let m = join_one(rows, k, i, right, rights, list, so_far);
+        if MOST < m {
+            return m;
         }
+        so_far = m;
+        t += 1;
     }
-    Filling::Many(so_far)
+    so_far
 }
 
 fn none_found() -> [u16; field::ACTION_LIMIT] {
@@ -155,17 +152,9 @@ fn none_found() -> [u16; field::ACTION_LIMIT] {
 }
 
 // Closes the scope of node k, whose operand's transitions stand in the list from `start` to `end`.
-pub fn close(
-    rows: &[u16],
-    k: usize,
-    list: &mut [u16],
-    room: usize,
-    start: usize,
-    end: usize,
-) -> Filling
-    requires { ⌜ (k ≤ 1366) × (length (now rows) ≤ 8196) × Room room (now list) × (start ≤ room) × (end ≤ room) ⌝ }
-    ensures fits { λ r. ⌜ Within r room ⌝ }
-    ensures closes { λ r. ⌜ ((count i at a : ℕ) (E : Expr) → Node (now (rows .entry)) count k i at (scope a E) → ScopesNamed (scope a E) → actions E ≤ 256 → Part (now (list .entry)) start end (transitions i E) → Lists r room start (actions E) (transitions i (scope a E)) (now (list .entry)) (now (list .exit))) ⌝ }
+pub fn close(rows: &[u16], k: usize, list: &mut [u16], start: usize, end: usize) -> usize
+    requires { ⌜ (k ≤ 1366) × (length (now rows) ≤ 8196) × (3 * most ≤ length (now list)) × (start ≤ most) × (end ≤ most) ⌝ }
+    ensures { λ r. ⌜ ((count i at a : ℕ) (E : Expr) → Node (now (rows .entry)) count k i at (scope a E) → ScopesNamed (scope a E) → actions E ≤ 256 → Part (now (list .entry)) start end (transitions i E) → Lists r start (actions E) (transitions i (scope a E)) (now (list .entry)) (now (list .exit))) ⌝ }
 {
     let name = row_number(rows, k, BYTE);
     let mut left = none_found();
@@ -173,5 +162,5 @@ pub fn close(
     let mut right = none_found();
     let rights = gather(list, start, end, name + 128, &mut right);
     let kept = keep(list, start, end, name);
-    join(rows, k + 1, &left, lefts, &right, rights, list, room, kept)
+    join(rows, k + 1, &left, lefts, &right, rights, list, kept)
 }

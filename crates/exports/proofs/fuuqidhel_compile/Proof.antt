@@ -3,7 +3,7 @@
 use mathlib.Core.Path.{refl, sym}
 use borrow.Author.Needs.{needs}
 use borrow.Author.Tests.{lt-leb, le-leb}
-use Rattle.compile.specs.Built.{compiling-says}
+use Rattle.compile.specs.Says.{compiling-says}
 use Rattle.compile.specs.declared.Compiling.the-variants.{Refused, Made}
 use Rattle.exports.specs.Told.{compile-tells}
 use Rattle.exports.proofs.Tells.{tells}

@@ -1,5 +1,6 @@
 -- The proof of the cycle of calls {read_field, read_operands}: the measure is twice the bytes left, and one more for `read_operands`.
--- Each need of numbers follows from what the callees' answers leave of the body, and each return is a law of `Readers`. Assumes nothing.
+-- Each need of numbers follows from what the callees' answers leave of the body, and each return and each turn of the loop is a law of `Readers`.
+-- Assumes nothing.
 use Prim.Native.Nat.{ℕ, _<_, _≤_, _*_, _+_, _-_}
 use mathlib.Core.Path.{_≡_, subst}
 use native.Mathlib.Omega.{arith}
@@ -8,11 +9,10 @@ use borrow.Author.Needs.{needs}
 use borrow.Fn.Kinds.{In}
 use borrow.Fn.PlainCycle.{Measures, is, falls, and}
 use Rattle.plan.specs.Reading.{read-field}
-use Rattle.plan.specs.Inner.{HeadFits, FieldFits, OperandsFit}
+use Rattle.plan.specs.Inner.{HeadFits, OperandsFit}
 use Rattle.plan.specs.declared.Head.{Head}
-use Rattle.plan.specs.declared.FieldRead.{FieldRead}
 use Rattle.plan.specs.declared.OperandsRead.{OperandsRead}
-use Rattle.plan.proofs.Readers.{body-length, rest-length, rest-fits, field-too-deep, field-refused, field-action, field-operands-refused, field-operator, operands-left-over, operands-done, operands-missing, operands-refused, operands-more}
+use Rattle.plan.proofs.Readers.{body-length, field-too-deep, field-refused, field-action, field-operands-refused, field-operator, Left, none-read, left-over, all-read, one-missing, one-refused, one-read}
 use Rattle.plan.proofs.read_field.Reads as field
 use Rattle.plan.proofs.read_field.Kinds as field-kinds
 use Rattle.plan.proofs.+read_field+read_operands.Lts-read_field as field-lts
@@ -46,7 +46,7 @@ abbrev field-claims : ℕ → field-lts.Claims
 field-claims t = (look-reads.Asked, look-reads.Learnt, put-row-reads.Asked, put-row-reads.Learnt, operands-below t, operands.Post)
 
 abbrev operands-claims : ℕ → operands-lts.Claims
-operands-claims t = (field-below t, field.Post, operands-below t, operands.Post)
+operands-claims t = (field-below t, field.Post)
 
 -- read_field, in the arm of an action
 
@@ -83,19 +83,14 @@ operands-fit t c =
     subst (λ (l : ℕ). (3 * c .before .nodes .given .0 .0 ≤ 3 * (c .before .before .before .before .before .before .before .before .before .before .before .before .before .before .before .args .node + 1) + l) × (c .before .nodes .given .0 .1 .0 ≤ 256)) (body-long t (c .before .before .before .before .before .before .before .before))
     (subst (λ (h : OperandsRead). OperandsFit h (length (take (start t (c .before .before .before .before .before .before .before .before) + len t (c .before .before .before .before .before .before .before .before) - start t (c .before .before .before .before .before .before .before .before)) (drop (start t (c .before .before .before .before .before .before .before .before)) (c .before .before .before .before .before .before .before .before .before .before .before .before .before .before .before .args .s .now)))) (c .before .before .before .before .before .before .before .before .before .before .before .before .before .before .before .args .node + 1)) (c .before .nodes .given .1) (c .before .before .before .before .before .read-operands .ensures .0))
 
--- read_operands, where an operand is read
+-- read_operands, at its loop
 
-abbrev OneRead : ℕ → Type 0
-OneRead t = operands-lts.After-known-told2 (operands-claims t) (operands-at t) operands.Post
+abbrev Inv-loop : operands-lts.InvT-loop
+Inv-loop s at levels node actions members rows₀ due₀ from₀ next₀ so-far₀ rows due from next so-far =
+    Left levels members s at actions node rows₀ rows due from next so-far
 
-abbrev used : (t : ℕ) → OneRead t → ℕ
-used t c = c .before .used .given .0 .0
-
-field-fits : (t : ℕ) (c : OneRead t) → (3 ≤ used t c) × (used t c ≤ length (c .before .before .before .before .before .before .before .before .before .before .before .args .s .now)) × (3 * c .before .used .given .0 .1 .0 ≤ 3 * c .before .before .before .before .before .before .before .before .before .before .before .args .node + used t c) × (c .before .used .given .0 .1 .1 .0 ≤ 256)
-field-fits t c = subst (λ (h : FieldRead). FieldFits h (length (c .before .before .before .before .before .before .before .before .before .before .before .args .s .now)) (c .before .before .before .before .before .before .before .before .before .before .before .args .node)) (c .before .used .given .1) (c .before .before .before .before .before .read-field .ensures .0)
-
-rest-long : (t : ℕ) (c : OneRead t) → length (take (length (c .before .before .before .before .before .before .before .before .before .before .before .args .s .now) - used t c) (drop (used t c) (c .before .before .before .before .before .before .before .before .before .before .before .args .s .now))) ≡ length (c .before .before .before .before .before .before .before .before .before .before .before .args .s .now) - used t c
-rest-long t c = rest-length (used t c) (c .before .before .before .before .before .before .before .before .before .before .before .args .s .now)
+abbrev μ-loop : operands-lts.MeasureT-loop
+μ-loop s at levels node actions members rows₀ due₀ from₀ next₀ so-far₀ rows due from next so-far = due
 
 -- the ways out of read_field
 
@@ -150,44 +145,32 @@ field-returns-5 t c =
           (n .0 .0) (n .0 .1 .0) (c .before .before .put-row2 .last .0) (n .1) (c .before .before .put-row2 .ensures),
     )
 
--- the ways out of read_operands
+-- the ways out of read_operands, and a turn of its loop
 
-operands-returns : (t : ℕ) → operands-lts.Need-returns (operands-claims t) (operands-at t) operands.Post
-operands-returns t c =
-    let a = c .before .before .before .before .args in
-    (tt, operands-left-over (read-field (a .levels)) (a .members) (a .s .now) (a .at) (a .actions) (a .node) (a .rows .now) (a .rows .now) (c .before .if1 .taken) (omega arith))
+operands-returns : (t : ℕ) → operands-lts.Need-returns (operands-claims t) (operands-at t) operands.Post Inv-loop μ-loop
+operands-returns t c = (tt, one-missing (c .before .before .loop .inv) (c .before .loop-test .taken) (c .if1 .taken))
 
-operands-returns-2 : (t : ℕ) → operands-lts.Need-returns-2 (operands-claims t) (operands-at t) operands.Post
+operands-returns-2 : (t : ℕ) → operands-lts.Need-returns-2 (operands-claims t) (operands-at t) operands.Post Inv-loop μ-loop
 operands-returns-2 t c =
-    let a = c .before .before .before .before .args in
-    (omega arith, operands-done (read-field (a .levels)) (a .members) (a .s .now) (a .at) (a .actions) (a .node) (a .rows .now) (c .before .if1 .taken) (omega arith))
-
-operands-returns-3 : (t : ℕ) → operands-lts.Need-returns-3 (operands-claims t) (operands-at t) operands.Post
-operands-returns-3 t c =
-    let a = c .before .before .before .before .args in
-    (tt, operands-missing (read-field (a .levels)) (a .members) (a .s .now) (a .at) (a .actions) (a .node) (a .rows .now) (a .rows .now) (c .before .if1 .left) (c .if3 .taken))
-
-operands-returns-4 : (t : ℕ) → operands-lts.Need-returns-4 (operands-claims t) (operands-at t) operands.Post
-operands-returns-4 t c =
-    let a = c .before .before .before .before .before .before .before .before .before .before .before .args in
     let f = c .before .before .before .before .before .read-field in
-    let g = c .before .number .given in (
-      tt,
-      operands-refused (read-field (a .levels)) (a .members) (a .s .now) (a .at) (a .actions) (a .node) (a .rows .now) (f .last .1 .1 .1 .1 .1 .0) (f .result) (g .0 .0) (g .0 .1 .0)
-          (c .before .before .before .before .before .before .before .before .if1 .left) (c .before .before .before .before .before .before .before .if3 .left) (f .ensures .1) (g .1),
-    )
+    let b = c .before .before .before .before .before .before .before .before in
+    let g = c .before .number .given in
+    (tt, one-refused (b .before .before .loop .inv) (b .before .loop-test .taken) (b .if1 .left) (f .result) (f .last .1 .1 .1 .1 .1 .0) (f .ensures .1) (g .0 .0) (g .0 .1 .0) (g .1))
 
-operands-returns-5 : (t : ℕ) → operands-lts.Need-returns-5 (operands-claims t) (operands-at t) operands.Post
-operands-returns-5 t c =
-    let b = c .before .before .before .before .before in
-    let a = b .before .before .before .before .before .before .before .before .before .before .before .args in
-    let f = b .before .before .before .before .before .read-field in
-    let o = c .before .before .read-operands in
-    let g = b .before .used .given in (
-      rest-fits (o .result) (length (a .s .now)) _ (a .node) (g .0 .1 .0) (used t b) (o .ensures .0) (rest-long t b) (field-fits t b .1) (field-fits t b .2),
-      operands-more (a .levels) (a .members) (a .s .now) (a .at) (a .actions) (a .node) (a .rows .now) (f .last .1 .1 .1 .1 .1 .0) (o .last .1 .1 .1 .1 .1 .1 .0)
-          (f .result) (used t b) (g .0 .1 .0) (g .0 .1 .1 .0) (o .result) (b .before .before .before .before .before .before .before .before .if1 .left) (b .before .before .before .before .before .before .before .if3 .left) (f .ensures .1) (g .1) (field-fits t b .1) (o .ensures .1),
-    )
+operands-returns-3 : (t : ℕ) → operands-lts.Need-returns-3 (operands-claims t) (operands-at t) operands.Post Inv-loop μ-loop
+operands-returns-3 t c = (tt, left-over (c .before .before .loop .inv) (omega (arith, c .before .loop-test .left)) (c .if2 .taken))
+
+operands-returns-4 : (t : ℕ) → operands-lts.Need-returns-4 (operands-claims t) (operands-at t) operands.Post Inv-loop μ-loop
+operands-returns-4 t c =
+    let l = c .before .before .loop .inv in
+    (omega (arith, l .inside, l .numbered, l .counted), all-read l (omega (arith, c .before .loop-test .left)) (omega (arith, c .if2 .left)))
+
+operands-again : (t : ℕ) → operands-lts.Need-loop-again (operands-claims t) (operands-at t) operands.Post Inv-loop μ-loop
+operands-again t c =
+    let f = c .before .before .before .before .before .read-field in
+    let b = c .before .before .before .before .before .before .before .before in
+    let g = c .before .used .given in
+    one-read (b .before .before .loop .inv) (b .before .loop-test .taken) (b .if1 .left) (f .result) (f .last .1 .1 .1 .1 .1 .0) (f .ensures .1) (g .0 .0) (g .0 .1 .0) (g .0 .1 .1 .0) (g .1) (f .ensures .0) (c .before .before .before .before .rows .given)
 
 pub +read-field+read-operands-spec : {M : Type 1} → statement M
 +read-field+read-operands-spec =
@@ -222,20 +205,26 @@ pub +read-field+read-operands-spec : {M : Type 1} → statement M
     (λ c. search needs)
     (field-returns-5 t))
     (λ t.
-    operands-lts.spec (operands-claims t) (operands-at t) operands.Post
+    operands-lts.spec (operands-claims t) (operands-at t) operands.Post Inv-loop μ-loop
+    (λ c. none-read _ _ _ _ _ _ _ (search needs))
+    (λ c. search needs)
+    (λ c. search needs)
     (operands-returns t)
+    (λ c. search needs)
+    (λ c. search needs)
+    (λ c. search needs)
+    (λ c. search needs)
+    (λ c κs. search needs)
+    (λ c. search needs)
+    (λ c. search needs)
     (operands-returns-2 t)
+    (λ c. search needs)
+    (λ c. search needs)
+    (λ c. omega (arith, operands-again t c .inside))
+    (λ c. search needs)
+    (operands-again t)
+    (λ c. search needs)
+    (λ c. search needs)
     (operands-returns-3 t)
-    (λ c κs. omega arith)
     (λ c. search needs)
-    (λ c. search needs)
-    (operands-returns-4 t)
-    (λ c. search needs)
-    (λ c. omega (arith, field-fits t c))
-    (λ c. omega (arith, field-fits t c))
-    (λ c. omega (arith, field-fits t c))
-    (λ c. omega (arith, field-fits t (c .before)))
-    (λ c. omega (arith, field-fits t (c .before)))
-    (λ c κs. omega (arith, rest-long t (c .before .before), field-fits t (c .before .before)))
-    (λ c. search needs)
-    (operands-returns-5 t))
+    (operands-returns-4 t))

@@ -1,6 +1,6 @@
 -- `copy_below` meets its contract: after each turn the numbers so far are a run below the bound, and the loop stops at once only where the
 -- first is not below the bound, or nothing is left of the list or of the room. Assumes nothing.
-use Prim.Native.Nat.{_+_, _-_}
+use Prim.Native.Nat.{_-_}
 use native.Mathlib.Omega.{arith}
 use mathlib.Core.Path.{_≡_, refl}
 use lib.ListN.{length, length-set}

@@ -10,9 +10,7 @@ pub count-places-spec : {M : Type 1} → statement M
 count-places-spec =
     tie.close
     (tie.spec
-    (λ c. let a = c .before .before .before .args in
-    all-counted (none-left (a .rows .now) (a .counts .now) (c .if1 .taken)))
     (λ c κs. search needs)
     (λ c. search needs)
-    (λ c. let a = c .before .before .before .before .before .before .before .args in
+    (λ c. let a = c .before .before .before .before .before .before .args in
     all-counted (c .before .before .count .ensures _ (none-left (a .rows .now) _ refl))))

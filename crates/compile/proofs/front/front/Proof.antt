@@ -7,14 +7,14 @@ use Rattle.compile.proofs.front.front.Statement.{statement}
 use Rattle.compile.proofs.front.front.Tie as tie
 
 read-plan-in-requires : tie.Need-read-plan-in-requires
-read-plan-in-requires c κs = λ h. c .before .before .before .before .before .pre h .0
+read-plan-in-requires c κs = λ h. c .before .before .before .before .before .pre .0 h .0
 
 judge-requires : tie.Need-judge-requires
 judge-requires c κs =
     let s = c .before .before .before .before .before .before .before .before .before .before .before .before .before .before in
     let o = c .before .before .before .before .before .before .before .before .read-plan-in in
     let w = is-read (s .args .plan .now) _ _ _ _ (o .result) (o .ensures .0) (o .ensures .1) (c .before .before .before .before .nodes .given .1) in
-    omega (arith, w .room, w .three-bytes, s .pre (w .short))
+    (omega (arith, w .room), omega (arith, w .three-bytes, s .pre .0 (w .short)), omega (arith, w .three-bytes, s .pre .0 (w .short)), s .pre .1)
 
 returns : tie.Need-returns
 returns c =
@@ -29,7 +29,7 @@ returns-2 c =
     let j = c .before .before .before .before .judge in
     let w = is-read (a .plan .now) _ _ _ _ (o .result) (o .ensures .0) (o .ensures .1) (c .before .before .before .before .before .before .before .before .before .nodes .given .1) in
     let f = j .ensures (w .expr) (w .holds) (w .few) (w .labelled) in
-    (front-answer (a .plan .now) _ _ _ _ _ _ _ w (j .result) f, front-tables (a .plan .now) _ _ _ _ _ _ _ w (j .result) f)
+    (front-answer (a .plan .now) _ _ _ _ _ _ w (j .result) f, front-tables (a .plan .now) _ _ _ _ _ _ w (j .result) f)
 
 pub front-spec : {M : Type 1} → statement M
 front-spec =

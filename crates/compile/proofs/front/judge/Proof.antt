@@ -10,7 +10,7 @@ use Rattle.compile.proofs.front.judge.Tie as tie
 returns : tie.Need-returns
 returns c =
     let o = c .before .before .before .check-loops in
-    λ E t few named. loops-stop E _ _ _ _ _ _ (sym (ap loops-say (c .before .at .given .1)) ∙ o .ensures E t)
+    λ E t few named. loops-stop E _ _ _ _ _ (sym (ap loops-say (c .before .at .given .1)) ∙ o .ensures E t)
 
 returns-2 : tie.Need-returns-2
 returns-2 c =
@@ -19,7 +19,7 @@ returns-2 c =
     let n = c .before .before .before .before .before .before .before .before .before .count-places in
     let l = c .before .before .list-few in
     λ E t few named.
-    all-fine E (a .nodes) _ _ _ _ (sym (ap loops-say (c .before .before .before .before .before .before .before .before .before .before .before .enum-told .given .1)) ∙ o .ensures E t) (t .nodes) (n .ensures E t)
+    all-fine E (a .nodes) _ _ _ (sym (ap loops-say (c .before .before .before .before .before .before .before .before .before .before .before .enum-told .given .1)) ∙ o .ensures E t) (t .nodes) (n .ensures E t)
     (sym (c .before .before .before .before .before .places-fit .ensures) ∙ c .before .before .before .before .if1 .taken) (l .result) (l .ensures E t few named)
 
 returns-3 : tie.Need-returns-3
@@ -28,7 +28,7 @@ returns-3 c =
     let o = c .before .before .before .before .before .before .before .before .before .check-loops in
     let n = c .before .before .before .before .before .count-places in
     λ E t few named.
-    places-stop E (a .nodes) _ _ _ _ (sym (ap loops-say (c .before .before .before .before .before .before .before .enum-told .given .1)) ∙ o .ensures E t) (t .nodes) (n .ensures E t)
+    places-stop E (a .nodes) _ _ _ (sym (ap loops-say (c .before .before .before .before .before .before .before .enum-told .given .1)) ∙ o .ensures E t) (t .nodes) (n .ensures E t)
     (sym (c .before .places-fit .ensures) ∙ c .if1 .left)
 
 pub judge-spec : {M : Type 1} → statement M

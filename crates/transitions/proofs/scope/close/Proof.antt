@@ -7,11 +7,8 @@ use Rattle.transitions.proofs.scope.close.Tie as tie
 
 returns : tie.Need-returns
 returns c =
-    let a = c .before .before .before .before .before .before .before .before .before .before .before .before .before .before .before .before .before .before .before .before .before .args in (
-      c .before .before .join .ensures .0,
-      closed (a .rows .now) (a .k) (a .start) (a .end) (a .list .now) (c .before .before .join .last .1 .1 .1 .1 .1 .1 .0) (a .room) (c .before .before .join .result) (c .before .before .before .before .before .before .before .before .before .before .before .before .before .before .before .before .before .before .row-number .ensures .0) (c .before .before .before .before .before .before .before .before .before .before .before .before .before .before .gather .ensures) (c .before .before .before .before .before .before .before .before .before .before .gather2 .ensures)
-          (c .before .before .before .before .before .before .before .before .keep .ensures .1) (c .before .before .join .ensures .1),
-    )
+    let a = c .before .before .before .before .before .before .before .before .before .before .before .before .before .before .before .before .before .before .before .before .before .args in
+    closed (a .rows .now) (a .k) (a .start) (a .end) (a .list .now) (c .before .before .before .before .before .before .before .before .before .before .before .before .before .before .before .before .before .before .row-number .ensures .0) (c .before .before .before .before .before .before .before .before .before .before .before .before .before .before .gather .ensures) (c .before .before .before .before .before .before .before .before .before .before .gather2 .ensures) (c .before .before .before .before .before .before .before .before .keep .ensures .1) (c .before .before .join .ensures)
 
 pub close-spec : {M : Type 1} → statement M
 close-spec =

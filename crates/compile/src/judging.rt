@@ -1,0 +1,73 @@
+// 01, "Refusal numbers": everything that 1 to 13 ask is known before the first arc is made, and with it where each arc will stand. So
+// compile tests 14 on the lent tables, and replay makes as much room as its net takes.
+use crate::front::Judgement;
+use crate::front::front;
+use plan::exclusive::number_at;
+use plan::exclusive::wide;
+use spread::walk::spread;
+use tables::rows::count_arcs;
+ghost use mathlib.Core.Path.{_≡_};
+ghost use Prim.Native.Nat.{_*_, _≤_};
+ghost use lib.ListN.{length};
+ghost use Rattle.field.specs.Limits.{plan-limit};
+ghost use Rattle.field.specs.Answer.{good};
+ghost use Rattle.algebra.specs.Expr.{Expr};
+ghost use Rattle.boxes.specs.Compile.{accept};
+ghost use Rattle.transitions.specs.Numbers.{most};
+ghost use Rattle.compile.specs.Says.{judged-says, net-counts, counted, Told, Drawn};
+
+// The first refusal with what it carries; or the counts of the net.
+pub enum Judged {
+    Refused(usize, usize),
+    Fine {
+        places: usize,
+        transitions: usize,
+        arcs: usize,
+        entries: usize,
+        internals: usize,
+    },
+}
+
+// The net is fine, with the counts of node 0, which is the whole plan.
+fn told(counts: &[u16], transitions: usize, arcs: usize) -> Judged
+    ensures { λ r. ⌜ Told (now (counts .entry)) transitions arcs r ⌝ }
+{
+    let entries = wide(number_at(counts, 0));
+    let internals = wide(number_at(counts, 1));
+    let exits = wide(number_at(counts, 2));
+    Judged::Fine {
+        places: entries + (internals + exits),
+        transitions: transitions,
+        arcs: arcs,
+        entries: entries,
+        internals: internals,
+    }
+}
+
+// From plan bytes to the counts of the net. Where it is fine the lists tell where each action's places stand, the index of each action's
+// node, and the list has the transitions. A field takes 3 bytes at least and a node eleven numbers of the lists, so four for each byte are room enough.
+pub fn judge(
+    plan: &[u8],
+    table: &mut [u16],
+    counts: &mut [u16],
+    lists: &mut [u16],
+    index: &mut [u16],
+    list: &mut [u16],
+) -> Judged
+    requires { ⌜ (length (now plan) ≤ plan-limit → (2 * length (now plan) ≤ length (now table)) × (length (now plan) ≤ length (now counts)) × (4 * length (now plan) ≤ length (now lists))) ⌝ }
+    requires { ⌜ (768 ≤ length (now index)) × (3 * most ≤ length (now list)) ⌝ }
+    ensures says { λ r. ⌜ judged-says r ≡ net-counts (now (plan .entry)) ⌝ }
+    ensures drawn { λ r. ⌜ ((E : Expr) → accept (now (plan .entry)) ≡ good E → Drawn r (now (lists .exit)) (now (index .exit)) (now (list .exit)) E) ⌝ }
+{
+    match front(plan, table, counts, list) {
+        Judgement::Refused(number, carried) => Judged::Refused(number, carried),
+        Judgement::Ready { nodes, transitions } => {
+            spread(table, nodes, counts, lists, index);
+            let arcs = count_arcs(index, list, transitions);
+            if field::ARC_LIMIT < arcs {
+                return Judged::Refused(field::TOO_MANY_ARCS, 0);
+            }
+            told(counts, transitions, arcs)
+        }
+    }
+}
