@@ -12,7 +12,10 @@
  * write overlaps nothing else that it is lent. Beyond that every value is
  * allowed everywhere: a call never fails but by its answer. No call keeps a
  * pointer or a state, so calls that write to different tables may run at the
- * same time. */
+ * same time.
+ *
+ * Work room is on the stack: 160 KiB are enough for every call (measured, not
+ * proved: compile 99 KiB, replay 143 KiB, fire and enabled 5 KiB). */
 #ifndef FUUQIDHEL_H
 #define FUUQIDHEL_H
 
