@@ -11,15 +11,11 @@ use Rattle.algebra.specs.Expr.{Expr, action, sequence, choice, parallel, loop, 
 use Rattle.algebra.specs.Places.{entries, internals, exits, places}
 use Rattle.algebra.specs.Arcs.{numbers, consumes, produces}
 use Rattle.arcs.specs.Positions.{ones, stretched, repeated}
-use Rattle.arcs.specs.Moves.{passes, own, Box, box, Lies, moved, shift, sequence-move, choice-move, parallel-move, loop-move}
+use Rattle.arcs.specs.Moves.{Kind, Entry, Internal, Exit, First, Second, Third, Move, passes, own, Box, box, Lies, moved, shift, sequence-move, choice-move, parallel-move, loop-move}
 use Rattle.arcs.specs.Spreads.{copied, placed, Spreads, plain, list-of, under}
-use Rattle.arcs.specs.declared.moves.Side.{Side}
-use Rattle.arcs.specs.declared.moves.Side.the-variants.{Inputs, Outputs}
-use Rattle.arcs.specs.declared.moves.Kind.{Kind}
-use Rattle.arcs.specs.declared.moves.Kind.the-variants.{Entry, Internal, Exit}
-use Rattle.arcs.specs.declared.moves.Operand.the-variants.{First, Second, Third}
-use Rattle.arcs.specs.declared.moves.Counts.{Counts}
-use Rattle.arcs.specs.declared.moves.Move.{Move}
+use Rattle.arcs.specs.declared.sides.Side.{Side}
+use Rattle.arcs.specs.declared.sides.Side.the-variants.{Inputs, Outputs}
+use Rattle.boxes.specs.declared.counts.Counts.{Counts}
 use Rattle.arcs.proofs.Ones.{numbers-ones, ones-before, off-append}
 use Rattle.arcs.proofs.Levels.{Goes, lengths, as-itself, behind, behind-two, loop-box, sequence-first, sequence-second, choice-first, choice-second, parallel-first, parallel-second, loop-first, loop-second, loop-third, scope-only}
 use Rattle.arcs.proofs.Boxes.{box-of-sequence, box-of-choice, box-of-parallel, box-of-loop, box-of-scope, none}

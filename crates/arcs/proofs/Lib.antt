@@ -1,4 +1,3 @@
-pub mod MoveTold
 pub mod Positions
 pub mod Spreading
 pub mod Merges

@@ -2,9 +2,9 @@
 -- True because every box has an entry and an exit, so that a product is at least each of its factors.
 use Prim.Native.Nat.{ℕ, _+_, _*_, _≤_}
 use native.Mathlib.Omega.{arith}
-use mathlib.Core.Path.{_≡_, refl, sym, _∙_, subst}
+use mathlib.Core.Path.{_≡_, refl, sym, _∙_, ap, subst}
 use mathlib.Core.List.{List, [], _++_, append-nil}
-use lib.ListN.{length, length-map, length-append}
+use lib.ListN.{length, getD, length-map, length-append}
 use Rattle.field.specs.Limits.{place-limit}
 use Rattle.algebra.specs.Expr.{Expr, action, sequence, choice, parallel, loop, scope}
 use Rattle.algebra.specs.Places.{entries, internals, exits}
@@ -15,10 +15,10 @@ use Rattle.plan.proofs.Stands.{stands-first, stands-second, stands-at}
 use Rattle.boxes.specs.NodeCounts.{counts-of}
 use Rattle.boxes.proofs.CountsCutOff.{entry-count-is, exit-count-is, internal-count-is}
 use Rattle.arcs.specs.Moves.{passes, box}
-use Rattle.arcs.specs.Nodes.{counts-at}
-use Rattle.arcs.specs.declared.moves.Side.{Side}
-use Rattle.arcs.specs.declared.moves.Counts.{Counts}
-use Rattle.arcs.proofs.MoveTold.{same-counts}
+use Rattle.boxes.specs.Counted.{counts-at}
+use Rattle.arcs.specs.declared.sides.Side.{Side}
+use Rattle.boxes.specs.declared.counts.Counts.{Counts}
+use Rattle.boxes.proofs.CountedByTag.{same-counts}
 use Rattle.arcs.proofs.Levels.{lengths}
 
 abbrev pub sizes : Expr → Counts
@@ -68,7 +68,7 @@ module _ (table : List ℕ) where
   counts-here k E s es is xs =
       let c = own-counts k E s in
       same-counts
-      (c 0 (omega arith) ∙ entry-count-is E ∙ omega arith)
+      (ap (λ i. getD table i 0) (let z : 3 * k ≡ 3 * k + 0 = omega arith in z) ∙ c 0 (omega arith) ∙ entry-count-is E ∙ omega arith)
       (c 1 (omega arith) ∙ internal-count-is E ∙ omega arith)
       (c 2 (omega arith) ∙ exit-count-is E ∙ omega arith)
 

@@ -10,11 +10,8 @@ use lib.ListN.{length, getD}
 use lib.Dec.{eqb}
 use borrow.Author.Tests.{eqb-true}
 use Rattle.arcs.specs.Positions.{run, stretched, repeated}
-use Rattle.arcs.specs.Moves.{moved, move, shift}
+use Rattle.arcs.specs.Moves.{Kind, Entry, Internal, Exit, Move, moved, move, shift}
 use Rattle.arcs.specs.Spreads.{Factor, Spread, copied, placed, more, lowered, Spreads, plain, list-of, under}
-use Rattle.arcs.specs.declared.moves.Kind.{Kind}
-use Rattle.arcs.specs.declared.moves.Kind.the-variants.{Entry, Internal, Exit}
-use Rattle.arcs.specs.declared.moves.Move.{Move}
 use Rattle.arcs.proofs.Positions.{stretched-length, stretched-at, repeated-at}
 
 -- ---- runs and copies, stretched

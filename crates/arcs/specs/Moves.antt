@@ -8,14 +8,29 @@ use Rattle.algebra.specs.Expr.{Expr}
 use Rattle.algebra.specs.Places.{Place, entries, internals, exits}
 use Rattle.algebra.specs.Arcs.{consumes, produces}
 use Rattle.arcs.specs.Positions.{ones, stretched, repeated}
-use Rattle.arcs.specs.declared.moves.Side.{Side}
-use Rattle.arcs.specs.declared.moves.Side.the-variants.{Inputs, Outputs}
-use Rattle.arcs.specs.declared.moves.Kind.{Kind}
-use Rattle.arcs.specs.declared.moves.Kind.the-variants.{Entry, Internal, Exit}
-use Rattle.arcs.specs.declared.moves.Operand.{Operand}
-use Rattle.arcs.specs.declared.moves.Operand.the-variants.{First, Second, Third}
-use Rattle.arcs.specs.declared.moves.Counts.{Counts}
-use Rattle.arcs.specs.declared.moves.Move.{Move}
+use Rattle.arcs.specs.declared.sides.Side.{Side}
+use Rattle.arcs.specs.declared.sides.Side.the-variants.{Inputs, Outputs}
+use Rattle.boxes.specs.declared.counts.Counts.{Counts}
+
+-- The three lists of a box.
+pub data Kind : Type 0 where
+  Entry : Kind
+  Internal : Kind
+  Exit : Kind
+
+pub data Operand : Type 0 where
+  First : Operand
+  Second : Operand
+  Third : Operand
+
+-- Position p becomes all a * step + p * right + b + off with a below left and b below right, in the list `kind`. Left and right are the lengths of the factors before and
+-- behind the list in a product; both are 1 where it is a part of a joined list, or the list itself.
+pub record Move : Type 0 where
+  pub kind : Kind
+  pub left : ℕ
+  pub right : ℕ
+  pub step : ℕ
+  pub off : ℕ
 
 -- What makes a place an input place of an action, or an output place.
 abbrev pub passes : Side → ℕ → Place → Bool
@@ -101,9 +116,3 @@ loop-move Second Exit e f g =
 loop-move Third Entry e f g = move Internal (e .exits * f .exits * f .entries) 1 (g .entries) (e .internals + f .internals + g .internals)
 loop-move Third Internal e f g = shift Internal (e .internals + f .internals)
 loop-move Third Exit e f g = shift Exit 0
-
--- Each count is a number of 16 bits.
-pub record Small (c : Counts) : Type 0 where
-  pub entries : c .entries ≤ 65535
-  pub internals : c .internals ≤ 65535
-  pub exits : c .exits ≤ 65535

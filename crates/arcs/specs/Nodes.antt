@@ -5,15 +5,10 @@ use lib.ListN.{getD}
 use Rattle.algebra.specs.Expr.{Expr}
 use Rattle.plan.specs.Table.{Stands, Node, values}
 use Rattle.boxes.specs.NodeCounts.{counts-of}
-use Rattle.arcs.specs.declared.moves.Counts.{Counts}
 
 -- The number of the first action of node k.
 abbrev pub first-at : List ℕ → ℕ → ℕ
 first-at rows k = getD rows (6 * k + 4) 0
-
--- The counts of node k.
-abbrev pub counts-at : List ℕ → ℕ → Counts
-counts-at table k = record { entries = getD table (3 * k + 0) 0; internals = getD table (3 * k + 1) 0; exits = getD table (3 * k + 2) 0 }
 
 -- Node k is an expression whose first action has the number n, and the table has the counts of its nodes.
 pub record At (rows table : List ℕ) (count k n : ℕ) (E : Expr) : Type 0 where

@@ -4,10 +4,8 @@ use Prim.Native.Nat.{ℕ, _+_, _*_}
 use mathlib.Core.Bool.{cond}
 use mathlib.Core.List.{List, [], _∷_}
 use lib.Dec.{eqb}
+use Rattle.arcs.specs.Moves.{Kind, Entry, Internal, Exit, Move}
 use Rattle.arcs.specs.Positions.{stretched, repeated}
-use Rattle.arcs.specs.declared.moves.Kind.{Kind}
-use Rattle.arcs.specs.declared.moves.Kind.the-variants.{Entry, Internal, Exit}
-use Rattle.arcs.specs.declared.moves.Move.{Move}
 
 -- A factor that stands before the list in some product: so many copies, each a step behind the one before.
 pub record Factor : Type 0 where

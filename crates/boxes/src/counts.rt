@@ -23,9 +23,9 @@ ghost use Rattle.boxes.specs.Counted.{Small, counts-at, sequence-counts,
 
 // How many places of each kind a box has.
 pub struct Counts {
-    entries: usize,
-    internals: usize,
-    exits: usize,
+    pub entries: usize,
+    pub internals: usize,
+    pub exits: usize,
 }
 
 // At most one above the limit.
@@ -40,7 +40,7 @@ fn cut_off(n: usize) -> usize
 }
 
 // The counts of node k, which has three numbers. One test serves all three where they are there.
-fn counts_at(counts: &[u16], k: usize) -> Counts
+pub fn counts_at(counts: &[u16], k: usize) -> Counts
     requires { ⌜ k ≤ 65536 ⌝ }
     ensures { λ r. ⌜ (r ≡ counts-at (now (counts .entry)) k) × Small r ⌝ }
 {

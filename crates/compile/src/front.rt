@@ -1,11 +1,10 @@
 // 01, "Refusal numbers": "Plan: 1; then fields in byte order ..; 10 after all reading; then 11, 12": the compile call's judgement before
 // any arc is made, and the work tables that the arcs are made from.
 use boxes::counts::count_places;
+use boxes::counts::counts_at;
 use plan::PlanRead;
 use plan::exclusive::Loops;
 use plan::exclusive::check_loops;
-use plan::exclusive::number_at;
-use plan::exclusive::wide;
 use plan::read_plan_in;
 use transitions::Listed;
 use transitions::list_transitions;
@@ -31,10 +30,8 @@ pub enum Judgement {
 fn places_fit(counts: &[u16]) -> bool
     ensures { λ r. ⌜ r ≡ leb (getD (now (counts .entry)) 0 0 + (getD (now (counts .entry)) 1 0 + getD (now (counts .entry)) 2 0)) place-limit ⌝ }
 {
-    let entries = wide(number_at(counts, 0));
-    let internals = wide(number_at(counts, 1));
-    let exits = wide(number_at(counts, 2));
-    entries + (internals + exits) <= field::PLACE_LIMIT
+    let whole = counts_at(counts, 0);
+    whole.entries + (whole.internals + whole.exits) <= field::PLACE_LIMIT
 }
 
 // 12.

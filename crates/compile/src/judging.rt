@@ -2,8 +2,7 @@
 // compile tests 14 on the lent tables, and replay makes as much room as its net takes.
 use crate::front::Judgement;
 use crate::front::front;
-use plan::exclusive::number_at;
-use plan::exclusive::wide;
+use boxes::counts::counts_at;
 use spread::walk::spread;
 use tables::rows::count_arcs;
 ghost use mathlib.Core.Path.{_≡_};
@@ -32,15 +31,13 @@ pub enum Judged {
 fn told(counts: &[u16], transitions: usize, arcs: usize) -> Judged
     ensures { λ r. ⌜ Told (now (counts .entry)) transitions arcs r ⌝ }
 {
-    let entries = wide(number_at(counts, 0));
-    let internals = wide(number_at(counts, 1));
-    let exits = wide(number_at(counts, 2));
+    let whole = counts_at(counts, 0);
     Judged::Fine {
-        places: entries + (internals + exits),
+        places: whole.entries + (whole.internals + whole.exits),
         transitions: transitions,
         arcs: arcs,
-        entries: entries,
-        internals: internals,
+        entries: whole.entries,
+        internals: whole.internals,
     }
 }
 

@@ -10,7 +10,7 @@ use lib.Seq.{ext-getD}
 use Rattle.plan.specs.Table.{Stands}
 use Rattle.arcs.specs.Positions.{stretched, repeated}
 use Rattle.arcs.specs.Spreads.{Factor, Spread, copied, placed}
-use Rattle.arcs.specs.declared.moves.Side.{Side}
+use Rattle.arcs.specs.declared.sides.Side.{Side}
 use Rattle.arcs.proofs.Positions.{stretched-length, repeated-length, repeated-first}
 use Rattle.spread.specs.Lists.{OneList, list-row, place-of, Chain, Means}
 use Rattle.spread.specs.Placing.{Small, Stepped, CopiedOn}

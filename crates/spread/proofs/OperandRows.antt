@@ -1,31 +1,26 @@
 -- The row that is put for an operand has the operand's spreads, and no other row changes.
--- True because its lists are the node's, lowered, and what a list goes on with stands in earlier rows; the numbers are below the limit, so that `%` changes none.
-use Prim.Native.Nat.{ℕ, _+_, _*_, _%_, _≤_, _<_}
+-- True because its lists are the node's, lowered, and what a list goes on with stands in earlier rows.
+use Prim.Native.Nat.{ℕ, _+_, _*_, _≤_, _<_}
 use native.Mathlib.Omega.{arith}
 use mathlib.Core.Path.{_≡_, refl, sym, _∙_, ap, ap₂, subst}
 use mathlib.Core.Bool.{Bool, true, false, cond}
 use mathlib.Core.Logic.{_⊎_, inl, inr}
 use mathlib.Core.List.{List, [], _∷_}
-use lib.ListN.{length, getD, set, length-set}
-use lib.Seq.{getD-set-same, getD-set-other}
+use lib.ListN.{length, getD}
 use lib.Dec.{eqb}
 use borrow.Author.Tests.{eqb-true, eqb-false}
 use Rattle.algebra.specs.Expr.{Expr}
+use Rattle.arcs.specs.Moves.{Kind, Entry, Internal, Exit, Move}
 use Rattle.arcs.specs.Spreads.{Factor, Spread, lowered, Spreads, list-of, under}
-use Rattle.arcs.specs.declared.moves.Side.{Side}
-use Rattle.arcs.specs.declared.moves.Side.the-variants.{Inputs, Outputs}
-use Rattle.arcs.specs.declared.moves.Kind.{Kind}
-use Rattle.arcs.specs.declared.moves.Kind.the-variants.{Entry, Internal, Exit}
-use Rattle.arcs.specs.declared.moves.Move.{Move}
+use Rattle.arcs.specs.declared.sides.Side.{Side}
+use Rattle.arcs.specs.declared.sides.Side.the-variants.{Inputs, Outputs}
 use Rattle.arcs.proofs.SpreadsFit.{Lowers, AllLower}
-use Rattle.spread.specs.Lists.{OneList, one-list, Short, list-row, list-by, lower, row-put, operand-put, place-of, Chain, Means, Has}
+use Rattle.spread.specs.Lists.{OneList, one-list, Short, list-row, list-by, lower, node-put, operand-put, place-of, Chain, Means, Has}
+use Rattle.spread.proofs.RowsPut.{node-long, node-kept, node-in, node-out, node-inner}
 
 -- The root's lists are not copied, so that what goes on with them ends there.
 pub record Rooted (lists : List ℕ) : Type 0 where
   pub none : (side : Side) → getD lists (place-of side 0 + 2) 0 ≡ 0
-
-mod-small : (x : ℕ) → x ≤ 65535 → x % 65536 ≡ x
-mod-small x h = omega arith
 
 -- Five numbers that are the same are the same list.
 pub row-same : (lists other : List ℕ) (at : ℕ) → ((j : ℕ) → at ≤ j → j < at + 5 → getD other j 0 ≡ getD lists j 0) → list-row other at ≡ list-row lists at
@@ -36,6 +31,17 @@ row-same lists other at same =
     let d = same (at + 3) (omega arith) (omega arith) in
     let e = same (at + 4) (omega arith) (omega arith) in
     λ i. one-list (a i) (b i) (c i) (d i) (e i)
+
+-- An operand's lists are lowered from the node's, which may stand in another table too.
+pub operand-from : (from lists : List ℕ) (k c : ℕ) (entry exit : Move) (off : ℕ) → ((j : ℕ) → 11 * k ≤ j → j < 11 * k + 11 → getD lists j 0 ≡ getD from j 0)
+    → operand-put from lists k c entry exit off ≡ operand-put lists lists k c entry exit off
+operand-from from lists k c entry exit off same =
+    λ i. node-put lists c (lower entry k (list-same (entry .kind) i)) (lower exit k (list-same (exit .kind) i)) (sym (same (11 * k + 10) (omega arith) (omega arith)) i + off)
+  where
+    list-same : (kind : Kind) → list-by from k kind ≡ list-by lists k kind
+    list-same Entry = sym (row-same from lists (11 * k) (λ j l h. same j l (omega arith)))
+    list-same Internal = ap (λ n. one-list n 1 0 0 0) (sym (same (11 * k + 10) (omega arith) (omega arith)))
+    list-same Exit = sym (row-same from lists (11 * k + 5) (λ j l h. same j (omega arith) (omega arith)))
 
 -- ---- what a list goes on with stands before a row
 pub chain-below : (lists : List ℕ) (side : Side) {a b : ℕ} → a ≤ b → (times step up : ℕ) (fs : List Factor) → Chain lists side a times step up fs → Chain lists side b times step up fs
@@ -130,62 +136,11 @@ module _ (lists : List ℕ) (k : ℕ) (s : Spreads) (h : Has lists k k s) where
         go : (a : Bool) → eqb (m .left) 1 ≡ a → (b : Bool) → eqb (l .times) 0 ≡ b
             → Means lists side c
             (cond a (one-list (l .base + m .off * l .width) (m .right * l .width) (l .times) (l .step) (l .up))
-            (cond b (one-list (l .base + m .off * l .width) (m .right * l .width) (m .left) (m .step * l .width) 0)
-            (one-list (l .base + m .off * l .width) (m .right * l .width) (m .left) (m .step * l .width) k)))
+            (one-list (l .base + m .off * l .width) (m .right * l .width) (m .left) (m .step * l .width) (cond b 0 k)))
             (record { base = t .base + m .off * t .width; width = m .right * t .width; over = cond a (t .over) (record { times = m .left; step = m .step * t .width } ∷ t .over) })
         go true e b f = record { base = base; width = width; over = chain-below lists side (omega arith) (l .times) (l .step) (l .up) (t .over) (means .over) }
         go false e true f = record { base = base; width = width; over = first-chain (eqb-true (l .times) 0 f) (eqb-false (m .left) 1 e) (t .over) (means .over) }
         go false e false f = record { base = base; width = width; over = more-chain (eqb-false (l .times) 0 f) (eqb-false (m .left) 1 e) (t .over) (means .over) }
-
--- ---- five numbers are stored
-module _ (lists : List ℕ) (at : ℕ) (s : OneList) (room : at + 5 ≤ length lists) where
-  abbrev p1 : List ℕ
-  p1 = set lists at (s .base % 65536)
-
-  abbrev p2 : List ℕ
-  p2 = set p1 (at + 1) (s .width % 65536)
-
-  abbrev p3 : List ℕ
-  p3 = set p2 (at + 2) (s .times % 65536)
-
-  abbrev p4 : List ℕ
-  p4 = set p3 (at + 3) (s .step % 65536)
-
-  l1 : length p1 ≡ length lists
-  l1 = length-set lists at _
-
-  l2 : length p2 ≡ length lists
-  l2 = length-set p1 (at + 1) _ ∙ l1
-
-  l3 : length p3 ≡ length lists
-  l3 = length-set p2 (at + 2) _ ∙ l2
-
-  l4 : length p4 ≡ length lists
-  l4 = length-set p3 (at + 3) _ ∙ l3
-
-  pub put-long : length (row-put lists at s) ≡ length lists
-  put-long = length-set p4 (at + 4) _ ∙ l4
-
-  pub put-other : (j : ℕ) → (j < at) ⊎ (at + 5 ≤ j) → getD (row-put lists at s) j 0 ≡ getD lists j 0
-  put-other j h =
-      getD-set-other p4 (at + 4) j _ 0 (λ e. out h (omega arith) (omega arith)) ∙ getD-set-other p3 (at + 3) j _ 0 (λ e. out h (omega arith) (omega arith))
-      ∙ getD-set-other p2 (at + 2) j _ 0 (λ e. out h (omega arith) (omega arith)) ∙ getD-set-other p1 (at + 1) j _ 0 (λ e. out h (omega arith) (omega arith))
-      ∙ getD-set-other lists at j _ 0 (λ e. out h (omega arith) (omega arith))
-    where
-      out : (j < at) ⊎ (at + 5 ≤ j) → at ≤ j → j < at + 5 → ⊥
-      out (inl x) a b = omega arith
-      out (inr x) a b = omega arith
-
-  pub put-row : list-row (row-put lists at s) at ≡ one-list (s .base % 65536) (s .width % 65536) (s .times % 65536) (s .step % 65536) (s .up % 65536)
-  put-row =
-      let a = getD-set-other p4 (at + 4) at _ 0 (λ e. omega arith) ∙ getD-set-other p3 (at + 3) at _ 0 (λ e. omega arith) ∙ getD-set-other p2 (at + 2) at _ 0 (λ e. omega arith)
-      ∙ getD-set-other p1 (at + 1) at _ 0 (λ e. omega arith) ∙ getD-set-same lists at _ 0 (omega arith) in
-      let b = getD-set-other p4 (at + 4) (at + 1) _ 0 (λ e. omega arith) ∙ getD-set-other p3 (at + 3) (at + 1) _ 0 (λ e. omega arith) ∙ getD-set-other p2 (at + 2) (at + 1) _ 0 (λ e. omega arith)
-      ∙ getD-set-same p1 (at + 1) _ 0 (omega (arith, l1)) in
-      let c = getD-set-other p4 (at + 4) (at + 2) _ 0 (λ e. omega arith) ∙ getD-set-other p3 (at + 3) (at + 2) _ 0 (λ e. omega arith) ∙ getD-set-same p2 (at + 2) _ 0 (omega (arith, l2)) in
-      let d = getD-set-other p4 (at + 4) (at + 3) _ 0 (λ e. omega arith) ∙ getD-set-same p3 (at + 3) _ 0 (omega (arith, l3)) in
-      let e = getD-set-same p4 (at + 4) _ 0 (omega (arith, l4)) in
-      λ k. one-list (a k) (b k) (c k) (d k) (e k)
 
 -- ---- the row of an operand
 module _ (lists : List ℕ) (k : ℕ) (s : Spreads) (h : Has lists k k s) (rooted : Rooted lists) (c : ℕ) (later : k < c) (small : c ≤ 65535) (room : 11 * c + 11 ≤ length lists) where
@@ -217,21 +172,10 @@ module _ (lists : List ℕ) (k : ℕ) (s : Spreads) (h : Has lists k k s) (roote
 
       go : (a b : Bool)
           → Short (cond a (one-list (l .base + m .off * l .width) (m .right * l .width) (l .times) (l .step) (l .up))
-          (cond b (one-list (l .base + m .off * l .width) (m .right * l .width) (m .left) (m .step * l .width) 0)
-          (one-list (l .base + m .off * l .width) (m .right * l .width) (m .left) (m .step * l .width) k)))
+          (one-list (l .base + m .off * l .width) (m .right * l .width) (m .left) (m .step * l .width) (cond b 0 k)))
       go true b = record { base = base; width = width; times = list-short lists k s h (m .kind) .0; step = list-short lists k s h (m .kind) .1; up = list-up (m .kind) }
       go false true = record { base = base; width = width; times = times; step = step; up = omega arith }
       go false false = record { base = base; width = width; times = times; step = step; up = omega arith }
-
-  -- A short row is stored as it is.
-  stored : (there : List ℕ) (at : ℕ) (x : OneList) → at + 5 ≤ length there → Short x → list-row (row-put there at x) at ≡ x
-  stored there at x r f =
-      put-row there at x r
-      ∙ (let a = mod-small (x .base) (f .base) in
-      let b = mod-small (x .width) (f .width) in
-      let d = mod-small (x .times) (f .times) in
-      let e = mod-small (x .step) (f .step) in
-      let g = mod-small (x .up) (f .up) in λ i. one-list (a i) (b i) (d i) (e i) (g i))
 
   module _ (X : Expr) (m : Kind → Move) (f : AllLower 2048 X m s) (ins : Stays Inputs (m Entry .kind)) (outs : Stays Outputs (m Exit .kind)) (inner : s .internal + m Internal .off ≤ 2048) where
     abbrev first : OneList
@@ -240,43 +184,35 @@ module _ (lists : List ℕ) (k : ℕ) (s : Spreads) (h : Has lists k k s) (roote
     abbrev second : OneList
     second = lower (m Exit) k (list-by lists k (m Exit .kind))
 
-    abbrev one : List ℕ
-    one = row-put lists (11 * c) first
+    ins-short : Short first
+    ins-short = lower-short (m Entry) 2048 _ (omega arith) Inputs ins (f .entries)
 
-    abbrev two : List ℕ
-    two = row-put one (11 * c + 5) second
+    outs-short : Short second
+    outs-short = lower-short (m Exit) 2048 _ (omega arith) Outputs outs (f .exits)
+
+    internal-is : getD lists (11 * k + 10) 0 + m Internal .off ≡ s .internal + m Internal .off
+    internal-is = ap (λ n. n + m Internal .off) (h .internal)
+
+    abbrev off : ℕ
+    off = getD lists (11 * k + 10) 0 + m Internal .off
+
+    low : off ≤ 65535
+    low = omega (arith, internal-is)
 
     abbrev after : List ℕ
-    after = operand-put lists k c (m Entry) (m Exit) (m Internal .off)
-
-    one-long : length one ≡ length lists
-    one-long = put-long lists (11 * c) first (omega arith)
-
-    two-long : length two ≡ length lists
-    two-long = put-long one (11 * c + 5) second (omega (arith, one-long)) ∙ one-long
+    after = operand-put lists lists k c (m Entry) (m Exit) (m Internal .off)
 
     pub operand-long : length after ≡ length lists
-    operand-long = length-set two (11 * c + 10) _ ∙ two-long
+    operand-long = node-long lists c first second off room ins-short outs-short low
 
     pub operand-kept : (j : ℕ) → (j < 11 * c) ⊎ (11 * c + 11 ≤ j) → getD after j 0 ≡ getD lists j 0
-    operand-kept j (inl b) =
-        getD-set-other two (11 * c + 10) j _ 0 (λ e. omega arith) ∙ put-other one (11 * c + 5) second (omega (arith, one-long)) j (inl (omega arith)) ∙ put-other lists (11 * c) first (omega arith) j (inl b)
-    operand-kept j (inr b) =
-        getD-set-other two (11 * c + 10) j _ 0 (λ e. omega arith) ∙ put-other one (11 * c + 5) second (omega (arith, one-long)) j (inr (omega arith)) ∙ put-other lists (11 * c) first (omega arith) j (inr (omega arith))
+    operand-kept = node-kept lists c first second off room ins-short outs-short low
 
     row-in : list-row after (11 * c) ≡ first
-    row-in = row-same one after (11 * c)
-        (λ j l h. getD-set-other two (11 * c + 10) j _ 0 (λ e. omega arith) ∙ put-other one (11 * c + 5) second (omega (arith, one-long)) j (inl (omega arith)))
-        ∙ (stored lists (11 * c) first (omega arith) (lower-short (m Entry) 2048 _ (omega arith) Inputs ins (f .entries)))
+    row-in = node-in lists c first second off room ins-short outs-short low
 
     row-out : list-row after (11 * c + 5) ≡ second
-    row-out = row-same two after (11 * c + 5) (λ j l h. getD-set-other two (11 * c + 10) j _ 0 (λ e. omega arith))
-        ∙ (stored one (11 * c + 5) second (omega (arith, one-long)) (lower-short (m Exit) 2048 _ (omega arith) Outputs outs (f .exits)))
-
-    inner-is : getD after (11 * c + 10) 0 ≡ s .internal + m Internal .off
-    inner-is =
-        getD-set-same two (11 * c + 10) _ 0 (omega (arith, two-long)) ∙ ap (λ n. (n + m Internal .off) % 65536) (h .internal)
-        ∙ mod-small (s .internal + m Internal .off) (omega arith)
+    row-out = node-out lists c first second off room ins-short outs-short low
 
     kept-means : (side : Side) {l : OneList} {t : Spread} → Means lists side (k + 1) l t → Means after side (k + 1) l t
     kept-means side {l} {t} x = record {
@@ -288,11 +224,11 @@ module _ (lists : List ℕ) (k : ℕ) (s : Spreads) (h : Has lists k k s) (roote
     pub operand-has : Has after (k + 1) c (under m s)
     operand-has = record {
       entries = subst (λ (r : OneList). Means after Inputs (k + 1) r (under m s .entries)) (sym row-in) (kept-means Inputs (lower-means lists k s h rooted (k + 1) (omega arith) Inputs (m Entry) ins (f .entries .some)));
-      internal = inner-is;
+      internal = node-inner lists c first second off room ins-short outs-short low ∙ internal-is;
       exits = subst (λ (r : OneList). Means after Outputs (k + 1) r (under m s .exits)) (sym row-out) (kept-means Outputs (lower-means lists k s h rooted (k + 1) (omega arith) Outputs (m Exit) outs (f .exits .some)));
       short = λ side. go side;
     }
       where
         go : (side : Side) → Short (list-row after (place-of side c))
-        go Inputs = subst Short (sym row-in) (lower-short (m Entry) 2048 _ (omega arith) Inputs ins (f .entries))
-        go Outputs = subst Short (sym row-out) (lower-short (m Exit) 2048 _ (omega arith) Outputs outs (f .exits))
+        go Inputs = subst Short (sym row-in) ins-short
+        go Outputs = subst Short (sym row-out) outs-short

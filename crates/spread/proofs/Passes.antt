@@ -1,15 +1,16 @@
 -- The pass over the node table: at each node all parts that are still to come have their lists, and every action that was passed is told of.
 -- True by the node's operator: its operands take its place among what is to come; and an action's own lists are its places in the whole.
-use Prim.Native.Nat.{ℕ, _+_, _*_, _%_, _≤_, _<_}
+use Prim.Native.Nat.{ℕ, _+_, _*_, _≤_, _<_}
 use native.Mathlib.Omega.{arith}
 use native.Mathlib.Decide.{decLt}
 use native.Mathlib.Nat.{mul-one}
 use mathlib.Core.Path.{_≡_, refl, sym, _∙_, ap, ap₂, subst}
 use mathlib.Core.Logic.{inl, inr}
 use mathlib.Core.List.{List, [], _∷_, _++_}
-use lib.ListN.{length, getD, set, length-set}
-use lib.Seq.{getD-set-same, getD-set-other}
+use lib.ListN.{length, getD}
+use lib.Seq.{sets, length-sets}
 use Rattle.field.specs.Limits.{place-limit}
+use borrow.Author.Tests.{le-leb}
 use Rattle.algebra.specs.Expr.{Expr, action, sequence, choice, parallel, loop, scope, actions}
 use Rattle.algebra.specs.Places.{places}
 use Rattle.algebra.specs.Arcs.{numbers}
@@ -19,25 +20,23 @@ use Rattle.plan.specs.Table.{tag-at, after-at, values}
 use Rattle.plan.proofs.Stands.{stands-take}
 use Rattle.plan.proofs.NodeValues.{table-node}
 use Rattle.boxes.specs.NodeCounts.{counts-of, node-counts}
-use Rattle.arcs.specs.Moves.{passes, own, sequence-move, choice-move, parallel-move, loop-move}
-use Rattle.arcs.specs.Nodes.{counts-at, At}
+use Rattle.arcs.specs.Moves.{Kind, Entry, Internal, Exit, Operand, First, Second, Third, Move, passes, own, sequence-move, choice-move, parallel-move, loop-move}
+use Rattle.boxes.specs.Counted.{counts-at}
+use Rattle.arcs.specs.Nodes.{At}
 use Rattle.arcs.specs.Spreads.{Spreads, placed, plain, list-of, under}
-use Rattle.arcs.specs.declared.moves.Side.{Side}
-use Rattle.arcs.specs.declared.moves.Side.the-variants.{Inputs, Outputs}
-use Rattle.arcs.specs.declared.moves.Kind.{Kind}
-use Rattle.arcs.specs.declared.moves.Kind.the-variants.{Entry, Internal, Exit}
-use Rattle.arcs.specs.declared.moves.Operand.the-variants.{First, Second, Third}
-use Rattle.arcs.specs.declared.moves.Move.{Move}
-use Rattle.arcs.specs.declared.moves.Counts.{Counts}
+use Rattle.arcs.specs.declared.sides.Side.{Side}
+use Rattle.arcs.specs.declared.sides.Side.the-variants.{Inputs, Outputs}
+use Rattle.boxes.specs.declared.counts.Counts.{Counts}
 use Rattle.arcs.proofs.Sizes.{sizes, counts-here}
 use Rattle.arcs.proofs.Children as kids
 use Rattle.arcs.proofs.Transitions.{numbers-few}
 use Rattle.arcs.proofs.Leads.{Leads, arcs, root, root-leads, action-leads, sequence-leads, choice-leads, parallel-leads, loop-leads, scope-leads}
 use Rattle.arcs.proofs.SpreadsFit.{AllFit, Parts, all-lower, sequence-parts, choice-parts, parallel-parts, loop-parts, scope-part}
-use Rattle.spread.specs.Lists.{OneList, one-list, Short, list-row, row-put, operand-put, place-of, Chain, Means, Has}
-use Rattle.spread.specs.Walk.{root-put, two-put, three-put, operands-put, Counts-of, ActionPut}
+use Rattle.spread.specs.Lists.{OneList, one-list, Short, list-row, place-of, Chain, Means, Has}
+use Rattle.spread.specs.Walk.{root-put, two-put, three-put, operands-put, Counts-of, index-numbers, index-put, ActionPut}
 use Rattle.spread.specs.Spread.{Of, Listed, count-of, Told}
-use Rattle.spread.proofs.OperandRows.{Rooted, Stays, row-same, put-long, put-other, put-row}
+use Rattle.spread.proofs.OperandRows.{Rooted, Stays}
+use Rattle.spread.proofs.RowsPut.{mod-small, sets-other, sets-at, node-long, node-in, node-out, node-inner}
 use Rattle.spread.proofs.Walks.{Knot, Ahead, Here, Next, means-kept, ahead-kept, ahead-actions, counts-are, two-next, three-next, one-next}
 
 module _ (rows counts : List ℕ) (nodes : ℕ) (R : Expr) where
@@ -59,20 +58,22 @@ module _ (rows counts : List ℕ) (nodes : ℕ) (R : Expr) where
     ends : {other : List ℕ} {a b c d : ℕ} (Xs : List Expr) → a ≡ b → c ≡ d → Next rows counts nodes R lists other k n a c Xs → Next rows counts nodes R lists other k n b d Xs
     ends {other} {a} {b} {c} {d} Xs p q x = subst (λ z. Next rows counts nodes R lists other k n b z Xs) q (subst (λ z. Next rows counts nodes R lists other k n z c Xs) p x)
 
-    -- A node of two operands, each with its moves: the second operand's node and the counts are read off the tables.
-    two-goes : (P E F : Expr) (tag : ℕ) (m₁ m₂ : Kind → Move) → At rows counts nodes (k + 1) n E × At rows counts nodes (k + 1 + node-count E) (n + actions E) F → Parts P E m₁ × Parts P F m₂
-        → Leads R n E (under m₁ s) × Leads R (n + actions E) F (under m₂ s) → AllFit 2048 P s
-        → Stays Inputs (m₁ Entry .kind) × Stays Outputs (m₁ Exit .kind) × Stays Inputs (m₂ Entry .kind) × Stays Outputs (m₂ Exit .kind)
-        → {other : List ℕ} → other ≡ two-put lists k (after-at rows (k + 1)) tag (counts-at counts (k + 1)) (counts-at counts (after-at rows (k + 1)))
-        → two-put lists k (k + 1 + node-count E) tag (sizes E) (sizes F)
-        ≡ operand-put (operand-put lists k (k + 1) (m₁ Entry) (m₁ Exit) (m₁ Internal .off)) k (k + 1 + node-count E) (m₂ Entry) (m₂ Exit) (m₂ Internal .off)
+    -- A node of two operands: the second operand's node and the counts are read off the tables.
+    two-goes : (P E F : Expr) (m : Operand → Kind → Counts → Counts → Move) → At rows counts nodes (k + 1) n E × At rows counts nodes (k + 1 + node-count E) (n + actions E) F
+        → Parts P E (λ k. m First k (sizes E) (sizes F)) × Parts P F (λ k. m Second k (sizes E) (sizes F))
+        → Leads R n E (under (λ k. m First k (sizes E) (sizes F)) s) × Leads R (n + actions E) F (under (λ k. m Second k (sizes E) (sizes F)) s) → AllFit 2048 P s
+        → Stays Inputs (m First Entry (sizes E) (sizes F) .kind) × Stays Outputs (m First Exit (sizes E) (sizes F) .kind)
+        × Stays Inputs (m Second Entry (sizes E) (sizes F) .kind) × Stays Outputs (m Second Exit (sizes E) (sizes F) .kind)
+        → {other : List ℕ} → other ≡ two-put m lists k (after-at rows (k + 1)) (counts-at counts (k + 1)) (counts-at counts (after-at rows (k + 1)))
         → Next rows counts nodes R lists other k n (k + 1 + node-count E + node-count F) (n + actions E + actions F) (E ∷ (F ∷ []))
-    two-goes P E F tag m₁ m₂ ats p l fit stays read is =
+    two-goes P E F m ats p l fit stays read =
+        let m₁ : Kind → Move = λ k. m First k (sizes E) (sizes F) in
+        let m₂ : Kind → Move = λ k. m Second k (sizes E) (sizes F) in
         let second = kids.second-at rows counts nodes k n E F ats in
         let e = counts-are rows counts nodes R (k + 1) n E (under m₁ s) (ats .0) (all-lower 2048 P E m₁ s (p .0) fit .fit) in
         let f = ap (counts-at counts) second ∙ counts-are rows counts nodes R (k + 1 + node-count E) (n + actions E) F (under m₂ s) (ats .1) (all-lower 2048 P F m₂ s (p .1) fit .fit) in
         subst (λ o. Next rows counts nodes R lists o k n (k + 1 + node-count E + node-count F) (n + actions E + actions F) (E ∷ (F ∷ [])))
-        (sym (read ∙ ap₂ (λ x y. two-put lists k (after-at rows (k + 1)) tag x y) e f ∙ ap (λ z. two-put lists k z tag (sizes E) (sizes F)) second ∙ is))
+        (sym (read ∙ ap₂ (λ x y. two-put m lists k (after-at rows (k + 1)) x y) e f ∙ ap (λ z. two-put m lists k z (sizes E) (sizes F)) second))
         (two-next rows counts nodes R lists k n P s h fit E F ats m₁ m₂ p l stays)
 
     node-goes : (X : Expr) → (tag-at rows k ≡ 1 → ⊥) → At rows counts nodes k n X → Leads R n X s → AllFit 2048 X s → Goes lists (operands-put rows counts k (tag-at rows k) lists) k n X
@@ -80,16 +81,16 @@ module _ (rows counts : List ℕ) (nodes : ℕ) (R : Expr) where
     node-goes (action l) inner at leads fit = absurd (inner (kids.tag-is rows counts nodes (action l) at))
     node-goes (sequence E F) inner at leads fit =
         ends (E ∷ (F ∷ [])) (omega arith) (omega arith)
-        (two-goes (sequence E F) E F 2 (λ k. sequence-move First k (sizes E) (sizes F)) (λ k. sequence-move Second k (sizes E) (sizes F)) (kids.sequence-parts rows counts nodes E F at) (sequence-parts E F) (sequence-leads R n s E F leads) fit (tt, tt, tt, tt)
-        (ap (λ t. operands-put rows counts k t lists) (kids.tag-is rows counts nodes (sequence E F) at)) refl)
+        (two-goes (sequence E F) E F sequence-move (kids.sequence-parts rows counts nodes E F at) (sequence-parts E F) (sequence-leads R n s E F leads) fit (tt, tt, tt, tt)
+        (ap (λ t. operands-put rows counts k t lists) (kids.tag-is rows counts nodes (sequence E F) at)))
     node-goes (choice E F) inner at leads fit =
         ends (E ∷ (F ∷ [])) (omega arith) (omega arith)
-        (two-goes (choice E F) E F 3 (λ k. choice-move First k (sizes E) (sizes F)) (λ k. choice-move Second k (sizes E) (sizes F)) (kids.choice-parts rows counts nodes E F at) (choice-parts E F) (choice-leads R n s E F leads) fit (tt, tt, tt, tt)
-        (ap (λ t. operands-put rows counts k t lists) (kids.tag-is rows counts nodes (choice E F) at)) refl)
+        (two-goes (choice E F) E F choice-move (kids.choice-parts rows counts nodes E F at) (choice-parts E F) (choice-leads R n s E F leads) fit (tt, tt, tt, tt)
+        (ap (λ t. operands-put rows counts k t lists) (kids.tag-is rows counts nodes (choice E F) at)))
     node-goes (parallel E F) inner at leads fit =
         ends (E ∷ (F ∷ [])) (omega arith) (omega arith)
-        (two-goes (parallel E F) E F 4 (λ k. parallel-move First k (sizes E)) (λ k. parallel-move Second k (sizes E)) (kids.parallel-parts rows counts nodes E F at) (parallel-parts E F) (parallel-leads R n s E F leads) fit (tt, tt, tt, tt)
-        (ap (λ t. operands-put rows counts k t lists) (kids.tag-is rows counts nodes (parallel E F) at)) refl)
+        (two-goes (parallel E F) E F (λ o kind e f. parallel-move o kind e) (kids.parallel-parts rows counts nodes E F at) (parallel-parts E F) (parallel-leads R n s E F leads) fit (tt, tt, tt, tt)
+        (ap (λ t. operands-put rows counts k t lists) (kids.tag-is rows counts nodes (parallel E F) at)))
     node-goes (loop E F G) inner at leads fit =
         let (ats, last) = kids.loop-parts rows counts nodes E F G at in
         let p = loop-parts E F G in
@@ -131,8 +132,8 @@ module _ (rows counts : List ℕ) (nodes : ℕ) (R : Expr) where
     pub passed : Passed lists index k n
 
   -- What was told stays told where the rows passed and the index's numbers for these actions stay.
-  told-kept : (lists other index index′ : List ℕ) (k n : ℕ) → ((j : ℕ) → j < 11 * k → getD other j 0 ≡ getD lists j 0) → ((j : ℕ) → j < 3 * n → getD index′ j 0 ≡ getD index j 0) → Passed lists index k n → Passed other index′ (k + 1) n
-  told-kept lists other index index′ k n low same p i h =
+  told-kept : (lists other index index′ : List ℕ) (k n : ℕ) → 11 * k ≤ length other → ((j : ℕ) → j < 11 * k → getD other j 0 ≡ getD lists j 0) → ((j : ℕ) → j < 3 * n → getD index′ j 0 ≡ getD index j 0) → Passed lists index k n → Passed other index′ (k + 1) n
+  told-kept lists other index index′ k n reach low same p i h =
       let (t, b) = p i h in
       let e = same (3 * i) (omega arith) in (
         record { listed = λ side. subst (λ x. Listed other side x (numbers (passes side i) 0 (places 0 R))) (sym e) (kept side (t .listed side) b); counted = λ side. same (count-of side i) (count-low side) ∙ t .counted side },
@@ -147,13 +148,14 @@ module _ (rows counts : List ℕ) (nodes : ℕ) (R : Expr) where
       kept side x b = record {
         spread = x .spread;
         wide = x .wide;
+        inside = omega arith;
         means = means-kept lists other (getD index (3 * i) 0) (getD index (3 * i) 0) (λ j l. low j (omega arith)) (λ j l u. low j (omega arith)) side (x .means);
         is = x .is;
       }
 
   module _ (few : length (places 0 R) ≤ place-limit) (small : nodes ≤ 65535) where
     -- The next is an action: its own lists are its places in the whole.
-    module _ (lists index index′ : List ℕ) (k : ℕ) (put : ActionPut rows lists k index index′) (n l : ℕ) (x : Knot rows counts nodes R lists k k n (action l)) (inside : k < nodes) (room : 3 * n + 3 ≤ length index) where
+    module _ (lists index index′ : List ℕ) (k : ℕ) (put : ActionPut rows lists k index index′) (n l : ℕ) (x : Knot rows counts nodes R lists k k n (action l)) (inside : k < nodes) (reach : 11 * nodes ≤ length lists) (room : 3 * n + 3 ≤ length index) where
       abbrev s : Spreads
       s = x .spreads
 
@@ -174,51 +176,36 @@ module _ (rows counts : List ℕ) (nodes : ℕ) (R : Expr) where
       counts-it : (side : Side) {m : ℕ} → Counts-of lists side k m → (m ≡ length (arcs R side n)) × (m ≤ 2048)
       counts-it side {m} c =
           let e = ap length (is side) in
-          let p = c (list-of s (own side)) (means side) (omega (arith, e, places-few side)) in
+          let p = c (list-of s (own side)) (omega arith) (means side) (omega (arith, e, places-few side)) in
           (p ∙ sym e, omega (arith, p, e, places-few side))
 
-      stored : index′ ≡ set (set (set index (3 * n) (k % 65536)) (3 * n + 1) (put .inputs % 65536)) (3 * n + 2) (put .outputs % 65536)
+      abbrev told-numbers : List ℕ
+      told-numbers = index-numbers k (put .inputs) (put .outputs)
+
+      stored : index′ ≡ sets index (3 * n) told-numbers
       stored =
-          put .stored
-          ∙ ap (λ i. set (set (set index (3 * i) (k % 65536)) (3 * i + 1) (put .inputs % 65536)) (3 * i + 2) (put .outputs % 65536)) (kids.first-is rows counts nodes (action l) (x .at))
-
-      abbrev i1 : List ℕ
-      i1 = set index (3 * n) (k % 65536)
-
-      abbrev i2 : List ℕ
-      i2 = set i1 (3 * n + 1) (put .inputs % 65536)
-
-      l1 : length i1 ≡ length index
-      l1 = length-set index (3 * n) _
-
-      l2 : length i2 ≡ length index
-      l2 = length-set i1 (3 * n + 1) _ ∙ l1
+          put .stored ∙ ap (λ i. index-put index i told-numbers) (kids.first-is rows counts nodes (action l) (x .at))
+          ∙ rw (le-leb (3 * n + 3) (length index) room) refl
 
       index-long : length index′ ≡ length index
-      index-long = ap length stored ∙ length-set i2 (3 * n + 2) _ ∙ l2
+      index-long = ap length stored ∙ length-sets index (3 * n) told-numbers
 
       index-low : (j : ℕ) → j < 3 * n → getD index′ j 0 ≡ getD index j 0
-      index-low j h =
-          ap (λ z. getD z j 0) stored ∙ getD-set-other i2 (3 * n + 2) j _ 0 (λ e. omega arith) ∙ getD-set-other i1 (3 * n + 1) j _ 0 (λ e. omega arith) ∙ getD-set-other index (3 * n) j _ 0 (λ e. omega arith)
+      index-low j h = ap (λ z. getD z j 0) stored ∙ sets-other told-numbers index (3 * n) j (inl h)
+
+      number : (j i : ℕ) → i ≡ 3 * n + j → j < 3 → getD index′ i 0 ≡ getD told-numbers j 0
+      number j i e h = ap (λ z. getD z i 0) stored ∙ sets-at told-numbers index (3 * n) j i e h room
 
       node-told : getD index′ (3 * n) 0 ≡ k
-      node-told =
-          ap (λ z. getD z (3 * n) 0) stored ∙ getD-set-other i2 (3 * n + 2) (3 * n) _ 0 (λ e. omega arith) ∙ getD-set-other i1 (3 * n + 1) (3 * n) _ 0 (λ e. omega arith)
-          ∙ getD-set-same index (3 * n) _ 0 (omega arith) ∙ omega arith
+      node-told = number 0 (3 * n) (omega arith) (omega arith) ∙ mod-small k (omega arith)
 
       counts-told : (side : Side) → getD index′ (count-of side n) 0 ≡ length (arcs R side n)
-      counts-told Inputs =
-          let (e, b) = counts-it Inputs (put .inputs-are) in
-          let m : put .inputs % 65536 ≡ put .inputs = omega arith in
-          ap (λ z. getD z (3 * n + 1) 0) stored ∙ getD-set-other i2 (3 * n + 2) (3 * n + 1) _ 0 (λ e. omega arith) ∙ getD-set-same i1 (3 * n + 1) _ 0 (omega (arith, l1)) ∙ m ∙ e
-      counts-told Outputs =
-          let (e, b) = counts-it Outputs (put .outputs-are) in
-          let m : put .outputs % 65536 ≡ put .outputs = omega arith in
-          ap (λ z. getD z (3 * n + 2) 0) stored ∙ getD-set-same i2 (3 * n + 2) _ 0 (omega (arith, l2)) ∙ m ∙ e
+      counts-told Inputs = let (e, b) = counts-it Inputs (put .inputs-are) in number 1 (3 * n + 1) (omega arith) (omega arith) ∙ mod-small (put .inputs) (omega arith) ∙ e
+      counts-told Outputs = let (e, b) = counts-it Outputs (put .outputs-are) in number 2 (3 * n + 2) (omega arith) (omega arith) ∙ mod-small (put .outputs) (omega arith) ∙ e
 
       told : Told lists index′ R n
       told = record {
-        listed = λ side. subst (λ j. Listed lists side j (arcs R side n)) (sym node-told) (record { spread = list-of s (own side); wide = fits side; means = means side; is = is side });
+        listed = λ side. subst (λ j. Listed lists side j (arcs R side n)) (sym node-told) (record { spread = list-of s (own side); wide = fits side; inside = omega arith; means = means side; is = is side });
         counted = counts-told;
       }
 
@@ -226,7 +213,7 @@ module _ (rows counts : List ℕ) (nodes : ℕ) (R : Expr) where
       all-passed p i h = go (decLt i n)
         where
           go : Dec (i < n) → Told lists index′ R i × (getD index′ (3 * i) 0 < k + 1)
-          go (yes b) = told-kept lists lists index index′ k n (λ j l. refl) index-low p i b
+          go (yes b) = told-kept lists lists index index′ k n (omega arith) (λ j l. refl) index-low p i b
           go (no b) = let e : n ≡ i = omega arith in subst (λ j. Told lists index′ R j × (getD index′ (3 * j) 0 < k + 1)) e (told, omega (arith, node-told))
 
     pub action-step : (lists index index′ : List ℕ) (k : ℕ) → k < nodes → tag-at rows k ≡ 1 → ActionPut rows lists k index index′ → (n : ℕ) (Xs : List Expr) → Ahead rows counts nodes R lists k k n Xs → Rooted lists
@@ -241,8 +228,8 @@ module _ (rows counts : List ℕ) (nodes : ℕ) (R : Expr) where
           ahead = ahead-kept rows counts nodes R lists lists k (k + 1) (omega arith) (λ j l. refl) (k + 1) (n + 1) Xs (λ j l. refl) xs;
           rooted = rooted;
           room = room;
-          long = omega (arith, index-long lists index index′ k put n l x inside b);
-          passed = all-passed lists index index′ k put n l x inside b p;
+          long = omega (arith, index-long lists index index′ k put n l x inside room b);
+          passed = all-passed lists index index′ k put n l x inside room b p;
         }
     action-step lists index index′ k inside tag put n (sequence E F ∷ Xs) (x, xs) rooted room long p = absurd (omega (arith, tag, kids.tag-is rows counts nodes (sequence E F) (x .at)))
     action-step lists index index′ k inside tag put n (choice E F ∷ Xs) (x, xs) rooted room long p = absurd (omega (arith, tag, kids.tag-is rows counts nodes (choice E F) (x .at)))
@@ -265,7 +252,7 @@ module _ (rows counts : List ℕ) (nodes : ℕ) (R : Expr) where
           rooted = g .rooted;
           room = g .room;
           long = long;
-          passed = told-kept lists after index index k n (λ j l. g .kept j (inl (omega arith))) (λ j l. refl) p;
+          passed = told-kept lists after index index k n (omega (arith, g .room)) (λ j l. g .kept j (inl (omega arith))) (λ j l. refl) p;
         })
 
     -- At the end every action was passed.
@@ -292,44 +279,36 @@ module _ (rows counts : List ℕ) (nodes : ℕ) (R : Expr) (o : Of rows nodes co
   abbrev last : OneList
   last = one-list (entries-of R + internals-of R) 1 0 0 0
 
-  abbrev r1 : List ℕ
-  r1 = row-put lists 0 first
+  ins : Short first
+  ins = record { base = omega arith; width = omega arith; times = omega arith; step = omega arith; up = omega arith }
 
-  abbrev r2 : List ℕ
-  r2 = row-put r1 5 last
+  outs : Short last
+  outs = record { base = omega (arith, all-few); width = omega arith; times = omega arith; step = omega arith; up = omega arith }
+
+  low : entries-of R ≤ 65535
+  low = omega (arith, all-few)
+
+  reach : 11 ≤ length lists
+  reach = omega arith
 
   abbrev after : List ℕ
   after = root-put (sizes R) lists
 
-  k1 : length r1 ≡ length lists
-  k1 = put-long lists 0 first (omega arith)
-
-  k2 : length r2 ≡ length lists
-  k2 = put-long r1 5 last (omega (arith, k1)) ∙ k1
-
-  root-long : length after ≡ length lists
-  root-long = length-set r2 10 _ ∙ k2
-
   row-in : list-row after 0 ≡ first
-  row-in = row-same r1 after 0 (λ j l h. getD-set-other r2 10 j _ 0 (λ e. omega arith) ∙ put-other r1 5 last (omega (arith, k1)) j (inl (omega arith))) ∙ put-row lists 0 first (omega arith)
+  row-in = node-in lists 0 first last (entries-of R) reach ins outs low
 
   row-out : list-row after 5 ≡ last
-  row-out =
-      let e : (entries-of R + internals-of R) % 65536 ≡ entries-of R + internals-of R = omega (arith, all-few) in
-      row-same r2 after 5 (λ j l h. getD-set-other r2 10 j _ 0 (λ e. omega arith)) ∙ (put-row r1 5 last (omega (arith, k1)) ∙ (λ i. one-list (e i) 1 0 0 0))
-
-  inner-is : getD after 10 0 ≡ entries-of R
-  inner-is = let e : entries-of R % 65536 ≡ entries-of R = omega (arith, all-few) in getD-set-same r2 10 _ 0 (omega (arith, k2)) ∙ e
+  row-out = node-out lists 0 first last (entries-of R) reach ins outs low
 
   row-at : (side : Side) → (list-row after (place-of side 0) .times ≡ 0) × Short (list-row after (place-of side 0))
-  row-at Inputs = (ap (λ (r : OneList). r .times) row-in, subst Short (sym row-in) (record { base = omega arith; width = omega arith; times = omega arith; step = omega arith; up = omega arith }))
-  row-at Outputs = (ap (λ (r : OneList). r .times) row-out, subst Short (sym row-out) (record { base = omega (arith, all-few); width = omega arith; times = omega arith; step = omega arith; up = omega arith }))
+  row-at Inputs = (ap (λ (r : OneList). r .times) row-in, subst Short (sym row-in) ins)
+  row-at Outputs = (ap (λ (r : OneList). r .times) row-out, subst Short (sym row-out) outs)
 
   root-has : Has after 0 0 (root (sizes R))
   unfolding Chain
   root-has = record {
     entries = subst (λ (r : OneList). Means after Inputs 0 r (plain 0)) (sym row-in) (record { base = refl; width = refl; over = refl });
-    internal = inner-is;
+    internal = node-inner lists 0 first last (entries-of R) reach ins outs low;
     exits = subst (λ (r : OneList). Means after Outputs 0 r (plain (entries-of R + internals-of R))) (sym row-out) (record { base = refl; width = refl; over = refl });
     short = λ side. row-at side .1;
   }
@@ -337,7 +316,7 @@ module _ (rows counts : List ℕ) (nodes : ℕ) (R : Expr) (o : Of rows nodes co
   -- The pass begins at the root, with no action passed.
   pub begins : (index : List ℕ) → 3 * actions R ≤ length index → Reached rows counts nodes R (root-put (counts-at counts 0) lists) index 0
   unfolding Ahead
-  begins index long = subst (λ (c : Counts). Reached rows counts nodes R (root-put c lists) index 0) (sym counts-root) (record {
+  begins index long = subst (λ l. Reached rows counts nodes R l index 0) (sym (ap (λ (c : Counts). root-put c lists) counts-root)) (record {
     n = 0;
     parts = R ∷ [];
     ahead = (
@@ -355,7 +334,7 @@ module _ (rows counts : List ℕ) (nodes : ℕ) (R : Expr) (o : Of rows nodes co
       (omega (arith, o .table .nodes), omega arith),
     );
     rooted = record { none = λ side. row-at side .0 };
-    room = omega (arith, root-long);
+    room = omega (arith, node-long lists 0 first last (entries-of R) reach ins outs low);
     long = long;
     passed = λ i h. absurd (omega arith);
   })

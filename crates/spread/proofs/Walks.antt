@@ -10,20 +10,19 @@ use lib.ListN.{length, getD}
 use Rattle.algebra.specs.Expr.{Expr, actions}
 use Rattle.plan.specs.Nodes.{node-count}
 use Rattle.plan.proofs.NodeValues.{node-count-positive}
-use Rattle.arcs.specs.Moves.{shift}
-use Rattle.arcs.specs.Nodes.{counts-at, At}
+use Rattle.arcs.specs.Moves.{Kind, Entry, Internal, Exit, Move, shift}
+use Rattle.boxes.specs.Counted.{counts-at}
+use Rattle.arcs.specs.Nodes.{At}
 use Rattle.arcs.specs.Spreads.{Spread, Spreads, under}
-use Rattle.arcs.specs.declared.moves.Side.{Side}
-use Rattle.arcs.specs.declared.moves.Side.the-variants.{Inputs, Outputs}
-use Rattle.arcs.specs.declared.moves.Kind.{Kind}
-use Rattle.arcs.specs.declared.moves.Kind.the-variants.{Entry, Internal, Exit}
-use Rattle.arcs.specs.declared.moves.Move.{Move}
+use Rattle.arcs.specs.declared.sides.Side.{Side}
+use Rattle.arcs.specs.declared.sides.Side.the-variants.{Inputs, Outputs}
 use Rattle.arcs.proofs.Sizes.{sizes, counts-here}
 use Rattle.arcs.proofs.Children as kids
 use Rattle.arcs.proofs.Leads.{Leads}
 use Rattle.arcs.proofs.SpreadsFit.{Fits, AllFit, Parts, all-lower}
 use Rattle.spread.specs.Lists.{OneList, Short, list-row, operand-put, place-of, Means, Has}
-use Rattle.spread.proofs.OperandRows.{Rooted, Stays, row-same, chain-below, chain-kept, operand-has, operand-kept, operand-long}
+use Rattle.spread.specs.Walk.{one-put}
+use Rattle.spread.proofs.OperandRows.{Rooted, Stays, row-same, chain-below, chain-kept, operand-from, operand-has, operand-kept, operand-long}
 
 -- ---- rows that do not change
 side-low : (side : Side) (k : ℕ) → (11 * k ≤ place-of side k) × (place-of side k + 5 ≤ 11 * k + 10)
@@ -108,13 +107,13 @@ module _ (rows counts : List ℕ) (nodes : ℕ) (R : Expr) where
     pub kept : (j : ℕ) → (j < 11 * c) ⊎ (11 * c + 11 ≤ j) → getD other j 0 ≡ getD lists j 0
 
   place : (lists : List ℕ) (k c : ℕ) (P X : Expr) (m : Kind → Move) (s : Spreads) → Here lists k s → AllFit 2048 P s → k < c → c < nodes → Parts P X m → Stays Inputs (m Entry .kind) → Stays Outputs (m Exit .kind)
-      → Placed lists (operand-put lists k c (m Entry) (m Exit) (m Internal .off)) k c X m s
+      → Placed lists (operand-put lists lists k c (m Entry) (m Exit) (m Internal .off)) k c X m s
   place lists k c P X m s h fit later inside parts ins outs =
       let f = all-lower 2048 P X m s parts fit in
       let i : s .internal + m Internal .off ≤ 2048 = omega (arith, parts .internals, fit .internals) in
       let r : 11 * c + 11 ≤ length lists = omega (arith, h .room) in
       let b : c ≤ 65535 = omega (arith, h .small) in
-      let other = operand-put lists k c (m Entry) (m Exit) (m Internal .off) in
+      let other = operand-put lists lists k c (m Entry) (m Exit) (m Internal .off) in
       let kept : (j : ℕ) → (j < 11 * c) ⊎ (11 * c + 11 ≤ j) → getD other j 0 ≡ getD lists j 0 = operand-kept lists k s (h .has) (h .rooted) c later b r X m f ins outs i in
       record {
         has = operand-has lists k s (h .has) (h .rooted) c later b r X m f ins outs i;
@@ -152,16 +151,17 @@ module _ (rows counts : List ℕ) (nodes : ℕ) (R : Expr) where
       c₂ = k + 1 + node-count E
 
       abbrev one : List ℕ
-      one = operand-put lists k (k + 1) (m₁ Entry) (m₁ Exit) (m₁ Internal .off)
+      one = operand-put lists lists k (k + 1) (m₁ Entry) (m₁ Exit) (m₁ Internal .off)
 
       abbrev two : List ℕ
-      two = operand-put one k c₂ (m₂ Entry) (m₂ Exit) (m₂ Internal .off)
+      two = operand-put lists one k c₂ (m₂ Entry) (m₂ Exit) (m₂ Internal .off)
 
       p₁ : Placed lists one k (k + 1) E m₁ s
       p₁ = place lists k (k + 1) P E m₁ s h fit (omega arith) (kids.node-inside rows counts nodes E (ats .0)) (parts .0) (stays .0) (stays .1)
 
       p₂ : Placed one two k c₂ F m₂ s
-      p₂ = place one k c₂ P F m₂ s (p₁ .here) fit (omega arith) (kids.node-inside rows counts nodes F (ats .1)) (parts .1) (stays .2) (stays .3)
+      p₂ = subst (λ o. Placed one o k c₂ F m₂ s) (sym (operand-from lists one k c₂ (m₂ Entry) (m₂ Exit) (m₂ Internal .off) (λ j l h. p₁ .kept j (inl (omega arith)))))
+          (place one k c₂ P F m₂ s (p₁ .here) fit (omega arith) (kids.node-inside rows counts nodes F (ats .1)) (parts .1) (stays .2) (stays .3))
 
       knot₂ : Knot two (k + 1) c₂ (n + actions E) F
       knot₂ = record { at = ats .1; spreads = under m₂ s; has = p₂ .has; leads = leads .1; fit = p₂ .fit }
@@ -191,10 +191,11 @@ module _ (rows counts : List ℕ) (nodes : ℕ) (R : Expr) where
         c₃ = k + 1 + node-count E + node-count F
 
         abbrev three : List ℕ
-        three = operand-put two k c₃ (m₃ Entry) (m₃ Exit) (m₃ Internal .off)
+        three = operand-put lists two k c₃ (m₃ Entry) (m₃ Exit) (m₃ Internal .off)
 
         p₃ : Placed two three k c₃ G m₃ s
-        p₃ = place two k c₃ P G m₃ s (p₂ .here) fit (omega arith) (kids.node-inside rows counts nodes G at) part in₃ out₃
+        p₃ = subst (λ o. Placed two o k c₃ G m₃ s) (sym (operand-from lists two k c₃ (m₃ Entry) (m₃ Exit) (m₃ Internal .off) (λ j l h. two-next .kept j (inl (omega arith)))))
+            (place two k c₃ P G m₃ s (p₂ .here) fit (omega arith) (kids.node-inside rows counts nodes G at) part in₃ out₃)
 
         pub three-next : Next lists three k n (k + 1 + node-count E + node-count F + node-count G) (n + actions E + actions F + actions G) (E ∷ (F ∷ (G ∷ [])))
         unfolding Ahead
@@ -219,13 +220,13 @@ module _ (rows counts : List ℕ) (nodes : ℕ) (R : Expr) where
             go j (inr b) = let y = node-count-positive G in p₃ .kept j (inr (omega arith)) ∙ two-next .kept j (inr (omega arith))
 
     pub one-next : (E : Expr) → At rows counts nodes (k + 1) n E → Parts P E (λ k. shift k 0) → Leads R n E (under (λ k. shift k 0) s)
-        → Next lists (operand-put lists k (k + 1) (shift Entry 0) (shift Exit 0) 0) k n (k + 1 + node-count E) (n + actions E) (E ∷ [])
+        → Next lists (one-put lists k) k n (k + 1 + node-count E) (n + actions E) (E ∷ [])
     unfolding Ahead
     one-next E at part lead =
         let p = place lists k (k + 1) P E (λ k. shift k 0) s h fit (omega arith) (kids.node-inside rows counts nodes E at) part tt tt in
         record {
           operands = λ Ys rest. (record { at = at; spreads = under (λ k. shift k 0) s; has = p .has; leads = lead; fit = p .fit }, rest);
-          kept = λ j o. go (operand-put lists k (k + 1) (shift Entry 0) (shift Exit 0) 0) (p .kept) j o;
+          kept = λ j o. go (one-put lists k) (p .kept) j o;
           rooted = p .here .rooted;
           room = p .here .room;
         }

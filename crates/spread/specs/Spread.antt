@@ -11,8 +11,8 @@ use Rattle.plan.specs.Table.{Table}
 use Rattle.boxes.specs.NodeCounts.{node-counts}
 use Rattle.arcs.specs.Moves.{passes}
 use Rattle.arcs.specs.Spreads.{Spread, placed}
-use Rattle.arcs.specs.declared.moves.Side.{Side}
-use Rattle.arcs.specs.declared.moves.Side.the-variants.{Inputs, Outputs}
+use Rattle.arcs.specs.declared.sides.Side.{Side}
+use Rattle.arcs.specs.declared.sides.Side.the-variants.{Inputs, Outputs}
 use Rattle.spread.specs.Lists.{list-row, place-of, Means}
 
 -- The rows begin with the node table of an expression and the counts with those of its nodes; its places are within the limit.
@@ -25,6 +25,7 @@ pub record Of (rows : List ℕ) (nodes : ℕ) (counts : List ℕ) (E : Expr) : T
 pub record Listed (lists : List ℕ) (side : Side) (k : ℕ) (l : List ℕ) : Type 0 where
   pub spread : Spread
   pub wide : 0 < spread .width
+  pub inside : 11 * k + 11 ≤ length lists
   pub means : Means lists side k (list-row lists (place-of side k)) spread
   pub is : l ≡ placed spread (0 ∷ [])
 

@@ -2,7 +2,7 @@
 use crate::lists::EXITS;
 use crate::lists::ROW;
 use crate::lists::list_at;
-use arcs::moves::Side;
+use arcs::sides::Side;
 use plan::exclusive::wide;
 ghost use mathlib.Core.Path.{_≡_};
 ghost use mathlib.Core.List.{List, [], _∷_};
@@ -16,7 +16,7 @@ ghost use Rattle.spread.specs.Placing.{Small, Stepped, CopiedOn};
 // Where a side's five numbers stand.
 pub fn place_of(side: Side, k: usize) -> usize
     requires { ⌜ k ≤ 65535 ⌝ }
-    ensures { λ r. ⌜ (r ≡ place-of side k) × (r ≤ 720890) ⌝ }
+    ensures { λ r. ⌜ (r ≡ place-of side k) × (r + 5 ≤ 11 * k + 10) ⌝ }
 {
     match side {
         Side::Inputs => ROW * k,
@@ -76,7 +76,7 @@ fn put_chain(
     out: &mut [u16],
     count: usize,
 )
-    requires { ⌜ (times ≤ 65535) × (step ≤ 65535) × (up ≤ 65535) × (0 < count) × (length (now out) ≤ 65536) ⌝ }
+    requires { ⌜ (11 * below ≤ length (now lists)) × (times ≤ 65535) × (step ≤ 65535) × (up ≤ 65535) × (0 < count) × (length (now out) ≤ 65536) ⌝ }
     ensures { λ _. ⌜ ((fs : List Factor) (ps : List ℕ) → Chain (now (lists .entry)) side below times step up fs → length ps ≡ count → Stands (now (out .entry)) 0 ps → length (copied fs ps) ≤ length (now (out .entry)) → Small (copied fs ps) → Stands (now (out .exit)) 0 (copied fs ps)) ⌝ }
 {
     if times == 0 {
@@ -100,8 +100,11 @@ fn put_chain(
 // The places of the action that node k is, on one side, into a slice that is as long as they are many.
 pub fn put_places(lists: &[u16], k: usize, side: Side, out: &mut [u16])
     requires { ⌜ (k ≤ 65535) × (length (now out) ≤ 65536) ⌝ }
-    ensures { λ _. ⌜ ((s : Spread) → Means (now (lists .entry)) side k (list-row (now (lists .entry)) (place-of side k)) s → 0 < s .width → length (now (out .entry)) ≡ length (placed s (0 ∷ [])) → Small (placed s (0 ∷ [])) → now (out .exit) ≡ placed s (0 ∷ [])) ⌝ }
+    ensures { λ _. ⌜ ((s : Spread) → 11 * k + 11 ≤ length (now (lists .entry)) → Means (now (lists .entry)) side k (list-row (now (lists .entry)) (place-of side k)) s → 0 < s .width → length (now (out .entry)) ≡ length (placed s (0 ∷ [])) → Small (placed s (0 ∷ [])) → now (out .exit) ≡ placed s (0 ∷ [])) ⌝ }
 {
+    if lists.len() < ROW * k + ROW {
+        return;
+    }
     let s = list_at(lists, place_of(side, k));
     let width = s.width;
     if width == 0 {
@@ -111,7 +114,11 @@ pub fn put_places(lists: &[u16], k: usize, side: Side, out: &mut [u16])
         return;
     }
     put_steps(out, s.base, 1, width);
-    put_chain(lists, side, k, s.times, s.step, s.up, out, width);
+    let times = s.times;
+    if times == 0 {
+        return;
+    }
+    put_chain(lists, side, k, times, s.step, s.up, out, width);
 }
 
 // How many numbers `count` become by the copies, and by those of the list that they go on with.
@@ -123,7 +130,7 @@ fn count_chain(
     up: usize,
     count: usize,
 ) -> usize
-    requires { ⌜ (times ≤ 65535) × (up ≤ 65535) × (count ≤ 65535) ⌝ }
+    requires { ⌜ (11 * below ≤ length (now lists)) × (times ≤ 65535) × (up ≤ 65535) × (count ≤ 65535) ⌝ }
     ensures low { λ r. ⌜ r ≤ 65535 ⌝ }
     ensures many { λ r. ⌜ ((step : ℕ) (fs : List Factor) (ps : List ℕ) → Chain (now (lists .entry)) side below times step up fs → length ps ≡ count → length (copied fs ps) ≤ 65535 → r ≡ length (copied fs ps)) ⌝ }
 {
@@ -141,8 +148,15 @@ fn count_chain(
 pub fn count_places(lists: &[u16], k: usize, side: Side) -> usize
     requires { ⌜ k ≤ 65535 ⌝ }
     ensures low { λ r. ⌜ r ≤ 65535 ⌝ }
-    ensures many { λ r. ⌜ ((s : Spread) → Means (now (lists .entry)) side k (list-row (now (lists .entry)) (place-of side k)) s → length (placed s (0 ∷ [])) ≤ 65535 → r ≡ length (placed s (0 ∷ []))) ⌝ }
+    ensures many { λ r. ⌜ ((s : Spread) → 11 * k + 11 ≤ length (now (lists .entry)) → Means (now (lists .entry)) side k (list-row (now (lists .entry)) (place-of side k)) s → length (placed s (0 ∷ [])) ≤ 65535 → r ≡ length (placed s (0 ∷ []))) ⌝ }
 {
+    if lists.len() < ROW * k + ROW {
+        return 0;
+    }
     let s = list_at(lists, place_of(side, k));
-    count_chain(lists, side, k, s.times, s.up, s.width)
+    let times = s.times;
+    if times == 0 {
+        return s.width;
+    }
+    count_chain(lists, side, k, times, s.up, s.width)
 }

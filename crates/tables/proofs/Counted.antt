@@ -16,8 +16,8 @@ use Rattle.net.specs.Tables.{item-of, arcs-of}
 use Rattle.boxes.specs.ArcCounts.{item-arcs, listed-arcs, action-arcs}
 use Rattle.boxes.proofs.ArcsCounted.{arcs-counted, listed-arcs-same}
 use Rattle.arcs.specs.Moves.{passes}
-use Rattle.arcs.specs.declared.moves.Side.{Side}
-use Rattle.arcs.specs.declared.moves.Side.the-variants.{Inputs, Outputs}
+use Rattle.arcs.specs.declared.sides.Side.{Side}
+use Rattle.arcs.specs.declared.sides.Side.the-variants.{Inputs, Outputs}
 use Rattle.arcs.proofs.Transitions.{numbers-few}
 use Rattle.tables.specs.Rows.{item-at, listed-at, listed-from, told-count, told-arcs, item-places, Below, Drafted, Whole}
 

@@ -2,4 +2,5 @@ pub mod Runs
 pub mod Counted
 pub mod Unions
 pub mod Sides
+pub mod SinglePlaces
 pub mod Puts

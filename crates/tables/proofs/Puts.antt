@@ -17,25 +17,18 @@ use Rattle.algebra.specs.Transitions.{transitions}
 use Rattle.algebra.specs.Arcs.{transition-of, net-of}
 use Rattle.net.specs.Tables.{none, second, item-of, rows-from, arcs-from, rows-of, arcs-of}
 use Rattle.boxes.specs.ArcCounts.{item-arcs}
-use Rattle.arcs.specs.declared.moves.Side.the-variants.{Inputs, Outputs}
+use Rattle.arcs.specs.declared.sides.Side.the-variants.{Inputs, Outputs}
 use Rattle.tables.specs.Rows.{item-at, listed-at, listed-from, told-count, told-arcs, Drafted, Whole, Asked, PlacedBoth, Room, Put}
 use Rattle.tables.proofs.Counted.{both-sides, side-told, its-actions, item-told, item-few, arcs-told, listed-next, listed-none, Counts, none-counted, one-counted, next-counted}
 use Rattle.tables.proofs.Runs.{sets-both}
 
 -- ---- one transition
-first-of : (i j : ℕ) → first (item-of i j) ≡ i
-first-of i j = go (eqb j none) refl
+pub its-numbers : (i j : ℕ) → (first (item-of i j) ≡ i) × (second (item-of i j) ≡ j)
+its-numbers i j = go (eqb j none) refl
   where
-    go : (b : Bool) → eqb j none ≡ b → first (item-of i j) ≡ i
-    go true e = rw e refl
-    go false e = rw e refl
-
-second-of : (i j : ℕ) → second (item-of i j) ≡ j
-second-of i j = go (eqb j none) refl
-  where
-    go : (b : Bool) → eqb j none ≡ b → second (item-of i j) ≡ j
-    go true e = rw e (sym (eqb-true j none e))
-    go false e = rw e refl
+    go : (b : Bool) → eqb j none ≡ b → (first (item-of i j) ≡ i) × (second (item-of i j) ≡ j)
+    go true e = rw e (refl, sym (eqb-true j none e))
+    go false e = rw e (refl, refl)
 
 -- A part of the arcs that was written whole.
 part-set : (arcs l : List ℕ) (at n : ℕ) → length l ≡ n → at + n ≤ length arcs → take at arcs ++ (l ++ drop n (drop at arcs)) ≡ sets arcs at l
@@ -49,11 +42,10 @@ module _ {lists index : List ℕ} {E : Expr} (d : Drafted lists index E) (list :
       → (getD list (3 * t) 0 ∷ (getD list (3 * t + 1) 0 ∷ (getD list (3 * t + 2) 0 ∷ (at ∷ (ins ∷ (outs ∷ [])))))) ≡ rows-from at (T ∷ [])
   unfolding rows-from transition-of
   row-is a b =
-      let f = sym (first-of (getD list (3 * t + 1) 0) (getD list (3 * t + 2) 0)) in
-      let g = sym (second-of (getD list (3 * t + 1) 0) (getD list (3 * t + 2) 0)) in
+      let f = its-numbers (getD list (3 * t + 1) 0) (getD list (3 * t + 2) 0) in
       let p = a ∙ item-told d (listed-at list t) m Inputs in
       let q = b ∙ item-told d (listed-at list t) m Outputs in
-      λ k. getD list (3 * t) 0 ∷ (f k ∷ (g k ∷ (at ∷ (p k ∷ (q k ∷ [])))))
+      λ k. getD list (3 * t) 0 ∷ (sym (f .0) k ∷ (sym (f .1) k ∷ (at ∷ (p k ∷ (q k ∷ [])))))
 
   ends-at : at + item-arcs (told-arcs index) (item-at list t) ≡ at + (length (T .inputs) + length (T .outputs))
   unfolding transition-of
@@ -98,17 +90,14 @@ module _ {t at : ℕ} {T : Transition} {rows rows′ arcs arcs′ : List ℕ} (w
       ∙ ap (λ r. sets r end (arcs-from ts)) (sym (w .in-arcs))
 
 -- ---- all of them, from one turn to the next
-listed-member : (list : List ℕ) (s n k : ℕ) → k < n → List·Memᴰ (listed-at list (s + k)) (listed-from list s n)
+listed-member : (list : List ℕ) (s n k t : ℕ) → k < n → t ≡ s + k → List·Memᴰ (listed-at list t) (listed-from list s n)
 unfolding listed-from
-listed-member list s zero k h = absurd (omega arith)
-listed-member list s (suc n) zero h = let e : s + 0 ≡ s = omega arith in List·Memᴰ·head (ap (listed-at list) e)
-listed-member list s (suc n) (suc k) h =
-    let e : suc s + k ≡ s + suc k = omega arith in
-    List·Memᴰ·tail (subst (λ t. List·Memᴰ (listed-at list t) (listed-from list (suc s) n)) e (listed-member list (suc s) n k (omega arith)))
+listed-member list s zero k t h e = absurd (omega arith)
+listed-member list s (suc n) zero t h e = let f : t ≡ s = omega arith in List·Memᴰ·head (ap (listed-at list) f)
+listed-member list s (suc n) (suc k) t h e = List·Memᴰ·tail (listed-member list (suc s) n k t (omega arith) (omega arith))
 
-module _ {lists index list : List ℕ} {many : ℕ} where
-  member : {E : Expr} → Whole lists index list many E → (t : ℕ) → t < many → List·Memᴰ (listed-at list t) (transitions 0 E)
-  member {E} w t h = let e : 0 + t ≡ t = omega arith in subst (λ k. List·Memᴰ (listed-at list k) (transitions 0 E)) e (subst (List·Memᴰ (listed-at list (0 + t))) (w .listed) (listed-member list 0 many t h))
+member : {lists index list : List ℕ} {many : ℕ} {E : Expr} → Whole lists index list many E → (t : ℕ) → t < many → List·Memᴰ (listed-at list t) (transitions 0 E)
+member {list = list} {many} w t h = subst (List·Memᴰ (listed-at list t)) (w .listed) (listed-member list 0 many t t h (omega arith))
 
 -- The transitions of E from t on.
 abbrev left : Expr → List ℕ → ℕ → ℕ → List Transition

@@ -2,12 +2,12 @@
 -- True by recursion on the first run.
 use Prim.Native.Nat.{ℕ, zero, suc, _+_, _-_, _≤_, _<_}
 use native.Mathlib.Omega.{arith}
-use native.Mathlib.Numerals.{add-one}
+use native.Mathlib.Numerals.{add-one, unary-clauses}
 use native.Mathlib.Nat.{zero-add}
 use mathlib.Core.Path.{_≡_, refl, sym, _∙_, ap, ap₂}
-use mathlib.Core.List.{List, [], _∷_, _++_}
-use lib.ListN.{length, getD, take, drop, set, replicate, length-append, length-replicate}
-use lib.Seq.{sets, sets-eq, drop-cons, getD-take, length-take-le}
+use mathlib.Core.List.{List, [], _∷_, _++_, append-nil}
+use lib.ListN.{length, drop, set, replicate, length-append, length-replicate, drop-of-length-le}
+use lib.Seq.{sets, sets-eq}
 
 -- A run's first store.
 pub one-stored : (l : List ℕ) (at left x : ℕ) → 0 < left → sets l at (replicate left x) ≡ sets (set l at x) (at + 1) (replicate (left - 1) x)
@@ -20,26 +20,14 @@ pub sets-both : (a b l : List ℕ) (i n : ℕ) → n ≡ i + length a → sets (
 sets-both [] b l i n e = ap (λ k. sets l k b) (omega arith)
 sets-both (x ∷ a) b l i n e = sets-both a b (set l i x) (suc i) n (omega arith)
 
-drop-over : (i : ℕ) (l : List ℕ) → length l ≤ i → drop i l ≡ []
-drop-over zero [] h = refl
-drop-over zero (x ∷ l) h = absurd (omega arith)
-drop-over (suc i) [] h = refl
-drop-over (suc i) (x ∷ l) h = drop-over i l (omega arith)
+-- A run as long as what it goes over leaves nothing else.
+pub all-set : (l part : List ℕ) → length l ≡ length part → sets part 0 l ≡ l
+all-set l part e = sets-eq l part 0 (omega arith) ∙ ap (λ r. l ++ r) (drop-of-length-le part {i = 0 + length l} (omega arith)) ∙ append-nil l
 
--- The first so many numbers of a list, put one after another: before the first, at each, and behind the last.
-pub none-put : (out list : List ℕ) (start : ℕ) → sets out start list ≡ sets out (start + 0) list
-none-put out list start = let e : start ≡ start + 0 = omega arith in ap (λ k. sets out k list) e
-
-module _ (list : List ℕ) (count : ℕ) (long : count ≤ length list) (start i : ℕ) where
-  pub next-put : (out : List ℕ) → i < count → sets out (start + i) (drop i (take count list)) ≡ sets (set out (start + i) (getD list i 0)) (start + (i + 1)) (drop (i + 1) (take count list))
-  next-put out h =
-      let e : drop i (take count list) ≡ getD list i 0 ∷ drop (i + 1) (take count list) =
-      drop-cons (take count list) i 0 (omega (arith, length-take-le count list long)) ∙ ap₂ (λ x k. x ∷ drop k (take count list)) (getD-take count list i 0 h) (sym (add-one i)) in
-      let k : suc (start + i) ≡ start + (i + 1) = omega arith in
-      ap (sets out (start + i)) e ∙ ap (λ j. sets (set out (start + i) (getD list i 0)) j (drop (i + 1) (take count list))) k
-
-  pub all-put : (out : List ℕ) → count ≤ i → sets out (start + i) (drop i (take count list)) ≡ out
-  all-put out h = ap (sets out (start + i)) (drop-over i (take count list) (omega (arith, length-take-le count list long)))
+-- Six stores are one run.
+pub six-stored : (l : List ℕ) (at a b c d e f : ℕ)
+    → set (set (set (set (set (set l at a) (at + 1) b) (at + 2) c) (at + 3) d) (at + 4) e) (at + 5) f ≡ sets l at (a ∷ (b ∷ (c ∷ (d ∷ (e ∷ (f ∷ []))))))
+six-stored l at a b c d e f = simp unary-clauses refl
 
 -- Three runs from the front, each behind the one before.
 pub three-runs : (l : List ℕ) (n m k x y z : ℕ) → n + m + k ≤ length l

@@ -1,19 +1,19 @@
 -- Two lists one behind the other, made one: where the second begins above the end of the first, which rises, they are it as they stand; else they are merged.
 -- True because each number of a rising list is at most its last, and a merge into room for both leaves nothing else there.
-use Prim.Native.Nat.{ℕ, suc, _+_, _-_, _≤_, _<_}
+use Prim.Native.Nat.{ℕ, suc, _+_, _-_, _<_}
 use native.Mathlib.Omega.{arith}
-use native.Mathlib.Decide.{decLt}
-use mathlib.Core.Path.{_≡_, refl, sym, _∙_, ap}
-use mathlib.Core.List.{List, [], _∷_, _++_, append-nil}
-use lib.ListN.{length, getD, take, drop, drop-of-length-le, List·getD-append}
-use lib.Seq.{sets, sets-eq, take-length, take-at, getD-append-seam, getD-append-add}
+use native.Mathlib.Nat.{lt-of-not-le, le-of-suc-le-suc}
+use mathlib.Core.Path.{_≡_, refl, _∙_, ap}
+use mathlib.Core.List.{List, [], _∷_, _++_}
+use lib.ListN.{length, getD, List·getD-append}
+use lib.Seq.{getD-append-seam, getD-append-add}
 use lib.Dec.{T, leb, ltb, leb→le}
 use borrow.Author.Tests.{lt-ltb}
 use Rattle.field.proofs.Tests.{and-parts}
 use Rattle.net.specs.Check.{rising}
 use Rattle.arcs.specs.Merge.{into, union, Below, Merged}
-use Rattle.arcs.proofs.Merges.{part-is}
-use Rattle.tables.specs.Rows.{InOrder, MergedAt}
+use Rattle.tables.specs.Rows.{InOrder}
+use Rattle.tables.proofs.Runs.{all-set}
 
 -- ---- as they stand
 union-behind : (b : ℕ) (bs l : List ℕ) → Below b l → union l (b ∷ bs) ≡ l ++ (b ∷ bs)
@@ -39,21 +39,5 @@ union-in-order k n l (b ∷ bs) t o =
     omega (arith, getD-append-seam l b bs 0, List·getD-append l (b ∷ bs) 0 i (omega arith), ap (λ i. getD (l ++ (b ∷ bs)) i 0) f)))
 
 -- ---- merged
-all-set : (l part : List ℕ) → length l ≡ length part → sets part 0 l ≡ l
-all-set l part e = sets-eq l part 0 (omega arith) ∙ ap (λ r. l ++ r) (drop-of-length-le part {i = 0 + length l} (omega arith)) ∙ append-nil l
-
-merged-all : {l part after : List ℕ} {r : ℕ} → length l ≡ length part → Merged (length part) r l part after → after ≡ l
-merged-all {l} {part} {r = r} n w = w .written (go (decLt (length part) r)) ∙ all-set l part n
-  where
-    go : Dec (length part < r) → r ≤ length part
-    go (yes h) = absurd (omega (arith, w .beyond h))
-    go (no h) = omega arith
-
-pub merge-is : (source part after : List ℕ) (m : ℕ) {r : ℕ} → length part ≡ length source → Merged (length part) r (union (take m source) (take (length source - m) (drop m source))) part after
-    → MergedAt m source after
-merge-is source part after m e w long = let u = ap (union (take m source)) (part-is source m) in merged-all (ap length u ∙ long ∙ sym e) w ∙ u
-
--- Copied into work room, the part stands in front of it.
-pub copy-is : (part spare : List ℕ) → length part ≤ length spare → take (length part) (sets spare 0 (take (length part) part)) ≡ part
-copy-is part spare h =
-    ap (λ l. take (length part) (sets spare 0 l)) (take-length part) ∙ ap (take (length part)) (sets-eq part spare 0 (omega arith)) ∙ take-at part (drop (0 + length part) spare) (length part) refl
+pub merged-all : {l part after : List ℕ} {r : ℕ} → length l ≡ length part → Merged (length part) r l part after → after ≡ l
+merged-all {l} {part} n w = w .written (le-of-suc-le-suc (lt-of-not-le (λ h. absurd (omega (arith, w .beyond h))))) ∙ all-set l part n

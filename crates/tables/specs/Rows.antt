@@ -2,7 +2,7 @@
 use Prim.Native.Nat.{ℕ, zero, suc, _+_, _*_, _-_, _≤_, _<_}
 use mathlib.Core.Path.{_≡_}
 use mathlib.Core.List.{List, [], _∷_, _++_}
-use lib.ListN.{length, getD, take, drop}
+use lib.ListN.{length, getD}
 use lib.Seq.{sets}
 use Rattle.field.specs.Limits.{place-limit}
 use Rattle.algebra.specs.Expr.{Expr, actions}
@@ -15,10 +15,9 @@ use Rattle.algebra.specs.Transitions.{Labelled, transitions}
 use Rattle.algebra.specs.Arcs.{numbers, by-item, net-of}
 use Rattle.net.specs.Tables.{item-of, rows-from, arcs-of}
 use Rattle.boxes.specs.ArcCounts.{item-arcs}
-use Rattle.arcs.specs.Merge.{union}
 use Rattle.arcs.specs.Moves.{passes}
-use Rattle.arcs.specs.declared.moves.Side.{Side}
-use Rattle.arcs.specs.declared.moves.Side.the-variants.{Inputs, Outputs}
+use Rattle.arcs.specs.declared.sides.Side.{Side}
+use Rattle.arcs.specs.declared.sides.Side.the-variants.{Inputs, Outputs}
 use Rattle.spread.specs.Spread.{count-of, Told}
 
 -- Transition t of the list, three numbers to each, and so many from t on.
@@ -82,13 +81,14 @@ PlacedBoth lists index item after =
     (E : Expr) → Drafted lists index E → Below (actions E) item → ((side : Side) → item-arcs (told-count index side) item ≡ length (item-places E side item))
     → after ≡ item-places E Inputs item ++ item-places E Outputs item
 
+-- A part became the places of two actions on one side, one list behind the other, whatever expression the work tables are of.
+abbrev pub PlacedPair : List ℕ → List ℕ → Side → ℕ → ℕ → List ℕ → Type 0
+PlacedPair lists index side i j after =
+    (E : Expr) → Drafted lists index E → Below (actions E) (two i j) → after ≡ item-places E side (one i) ++ item-places E side (one j)
+
 -- The number before place m is below the one there.
 abbrev pub InOrder : List ℕ → ℕ → Type 0
 InOrder l m = (0 < m) × (getD l (m - 1) 0 < getD l m 0)
-
--- Two lists that stand one behind the other, the second from place m on, became one, where they share no number.
-abbrev pub MergedAt : ℕ → List ℕ → List ℕ → Type 0
-MergedAt m before after = length (union (take m before) (drop m before)) ≡ length before → after ≡ union (take m before) (drop m before)
 
 -- There is room for transition t, whose arcs start at a place.
 pub record Room (index list : List ℕ) (t at : ℕ) (rows arcs : List ℕ) : Type 0 where

@@ -1,4 +1,3 @@
 // 01, "Net tables": the three tables of a net, written where they belong once all is judged.
-pub mod copying;
 pub mod kinds;
 pub mod rows;

@@ -1,18 +1,18 @@
 // 01, "Net tables": "six 16-bit numbers per transition .. arcs, 16-bit place numbers, inputs then outputs, each rising, transition after
 // transition with no gap". How many places each action has is told beforehand, so each row and each arc is written once, where it belongs.
-use crate::copying::put;
 use arcs::merge::merge;
-use arcs::moves::Side;
+use arcs::sides::Side;
 use plan::exclusive::number_at;
 use plan::exclusive::wide;
 use spread::placing::place_of;
 use spread::placing::put_places;
 ghost use mathlib.Core.Path.{_≡_};
-ghost use mathlib.Core.Bool.{true};
+ghost use mathlib.Core.Bool.{true, cond};
 ghost use mathlib.Core.List.{[], _∷_, List·Memᴰ};
 ghost use Prim.Native.Nat.{_+_, _*_, _<_, _≤_};
 ghost use lib.ListN.{length, getD};
 ghost use lib.Seq.{sets};
+ghost use lib.Dec.{ltb};
 ghost use Rattle.algebra.specs.Expr.{Expr};
 ghost use Rattle.algebra.specs.Item.{one, two};
 ghost use Rattle.algebra.specs.Places.{places};
@@ -20,8 +20,9 @@ ghost use Rattle.algebra.specs.Transitions.{transitions};
 ghost use Rattle.algebra.specs.Arcs.{transition-of, net-of};
 ghost use Rattle.net.specs.Tables.{item-of, rows-of, arcs-of};
 ghost use Rattle.boxes.specs.ArcCounts.{item-arcs, listed-arcs};
-ghost use Rattle.arcs.specs.declared.moves.Side.the-variants.{Inputs, Outputs};
-ghost use Rattle.tables.specs.Rows.{item-at, listed-at, listed-from, told-count, told-arcs, Drafted, Whole, Asked, Placed, PlacedBoth, InOrder, MergedAt, Room, Put};
+ghost use Rattle.arcs.specs.declared.sides.Side.the-variants.{Inputs, Outputs};
+ghost use Rattle.spread.specs.Lists.{place-of};
+ghost use Rattle.tables.specs.Rows.{item-at, listed-at, listed-from, told-count, told-arcs, Drafted, Whole, Asked, Placed, PlacedBoth, PlacedPair, InOrder, Room, Put};
 
 // How many places an action has on one side.
 fn count_of(index: &[u16], side: Side, i: usize) -> usize
@@ -81,6 +82,7 @@ fn node_of(index: &[u16], i: usize) -> usize
 // The first of an action's places on one side.
 fn first_place(lists: &[u16], index: &[u16], side: Side, i: usize) -> u16
     requires { ⌜ i ≤ 65535 ⌝ }
+    ensures { λ r. ⌜ r ≡ getD (now (lists .entry)) (place-of side (getD (now (index .entry)) (3 * i) 0)) 0 ⌝ }
 {
     number_at(lists, place_of(side, node_of(index, i)))
 }
@@ -103,35 +105,45 @@ fn is_in_order(part: &[u16], m: usize) -> bool
     number_at(part, m - 1) < number_at(part, m)
 }
 
-// Two lists that stand one behind the other, the second from place m on, merged into a part.
-fn merge_from(both: &[u16], m: usize, part: &mut [u16])
-    requires { ⌜ (m ≤ length (now both)) × (length (now part) ≡ length (now both)) ⌝ }
-    ensures { λ _. ⌜ MergedAt m (now (both .entry)) (now (part .exit)) ⌝ }
+// The places of two actions, one list behind the other, the second's from place m on.
+fn put_pair(
+    lists: &[u16],
+    index: &[u16],
+    i: usize,
+    j: usize,
+    side: Side,
+    m: usize,
+    part: &mut [u16],
+)
+    requires { ⌜ (i ≤ 65535) × (j ≤ 65535) × (m ≡ told-count (now index) side i) × (length (now part) ≡ m + told-count (now index) side j) × (length (now part) ≤ 2048) ⌝ }
+    ensures { λ _. ⌜ PlacedPair (now (lists .entry)) (now (index .entry)) side i j (now (part .exit)) ⌝ }
 {
+    put_one(lists, index, i, side, &mut part[..m]);
+    put_one(lists, index, j, side, &mut part[m..]);
+}
+
+// The same in rising order: the two lists are put into room that is as long as both, and merged from there.
+fn put_merged(
+    lists: &[u16],
+    index: &[u16],
+    i: usize,
+    j: usize,
+    side: Side,
+    m: usize,
+    room: &mut [u16],
+    part: &mut [u16],
+)
+    requires { ⌜ (i ≤ 65535) × (j ≤ 65535) × (m ≡ told-count (now index) side i) × (length (now room) ≡ m + told-count (now index) side j) × (length (now room) ≤ 2048) ⌝ }
+    ensures { λ _. ⌜ Placed (now (lists .entry)) (now (index .entry)) side (two i j) (now (part .entry)) (now (part .exit)) ⌝ }
+{
+    put_pair(lists, index, i, j, side, m, room);
+    // Lent whole first: the borrow checker takes two parts of one loan, and not two loans of a part each.
+    let both = &room[..];
     merge(&both[..m], &both[m..], part);
 }
 
-// The two lists of a part, merged by way of work room that is long enough.
-fn merge_by(part: &mut [u16], m: usize, spare: &mut [u16])
-    requires { ⌜ (m ≤ length (now part)) × (length (now part) ≤ length (now spare)) ⌝ }
-    ensures { λ _. ⌜ MergedAt m (now (part .entry)) (now (part .exit)) ⌝ }
-{
-    let n = part.len();
-    put(spare, 0, part, n);
-    merge_from(&spare[..n], m, part);
-}
-
-// The same with work room of its own.
-fn merge_alone(part: &mut [u16], m: usize)
-    requires { ⌜ (m ≤ length (now part)) × (length (now part) ≤ 2048) ⌝ }
-    ensures { λ _. ⌜ MergedAt m (now (part .entry)) (now (part .exit)) ⌝ }
-{
-    let mut spare = [0u16; field::PLACE_LIMIT];
-    merge_by(part, m, &mut spare);
-}
-
 // The places of two actions, those of the first before those of the second. Where the second's are all above them they rise as they
-// stand; else they are merged.
+// stand. Else they are merged, by way of work room: the lent one where it is long enough, or an array of its own.
 fn put_both(
     lists: &[u16],
     index: &[u16],
@@ -145,19 +157,36 @@ fn put_both(
     ensures { λ _. ⌜ Placed (now (lists .entry)) (now (index .entry)) side (two i j) (now (part .entry)) (now (part .exit)) ⌝ }
 {
     let m = count_of(index, side, i);
-    put_one(lists, index, i, side, &mut part[..m]);
-    put_one(lists, index, j, side, &mut part[m..]);
+    put_pair(lists, index, i, j, side, m, part);
     if is_in_order(part, m) {
         return;
     }
-    if part.len() <= spare.len() {
-        merge_by(part, m, spare);
+    let n = part.len();
+    if n <= spare.len() {
+        put_merged(lists, index, i, j, side, m, &mut spare[..n], part);
         return;
     }
-    merge_alone(part, m);
+    let mut own = [0u16; field::PLACE_LIMIT];
+    put_merged(lists, index, i, j, side, m, &mut own[..n], part);
 }
 
-// The places of a transition on one side: "both input sets and both output sets". Of two actions the one whose first place is lower goes first.
+// Two places, the lower first.
+fn put_two(part: &mut [u16], p: u16, q: u16)
+    requires { ⌜ length (now part) ≡ 2 ⌝ }
+    ensures { λ _. ⌜ now (part .exit) ≡ cond (ltb p q) (p ∷ (q ∷ [])) (q ∷ (p ∷ [])) ⌝ }
+{
+    if p < q {
+        part[0] = p;
+        part[1] = q;
+    } else {
+        part[0] = q;
+        part[1] = p;
+    }
+}
+
+// The places of a transition on one side: "both input sets and both output sets". Every action has a place, and its row begins with its first
+// one. So a single place is the first one of one action, and two places of two actions are the first one of each: no list is gone through.
+// Else, of two actions the one whose first place is lower goes first; there is one call for both orders, so that its code is put in place.
 fn put_side(
     lists: &[u16],
     index: &[u16],
@@ -170,15 +199,27 @@ fn put_side(
     requires { ⌜ (first ≤ 65535) × (second ≤ 65535) × (length (now part) ≡ item-arcs (told-count (now index) side) (item-of first second)) × (length (now part) ≤ 2048) ⌝ }
     ensures { λ _. ⌜ Placed (now (lists .entry)) (now (index .entry)) side (item-of first second) (now (part .entry)) (now (part .exit)) ⌝ }
 {
+    let p = first_place(lists, index, side, first);
+    if part.len() == 1 {
+        part[0] = p;
+        return;
+    }
     if second == field::NO_SECOND {
         put_one(lists, index, first, side, part);
         return;
     }
-    if first_place(lists, index, side, first) < first_place(lists, index, side, second) {
-        put_both(lists, index, first, second, side, part, spare);
+    let q = first_place(lists, index, side, second);
+    if part.len() == 2 {
+        put_two(part, p, q);
         return;
     }
-    put_both(lists, index, second, first, side, part, spare);
+    let mut low = first;
+    let mut high = second;
+    if q < p {
+        low = second;
+        high = first;
+    }
+    put_both(lists, index, low, high, side, part, spare);
 }
 
 // The inputs of a transition and behind them its outputs, into its part of the arcs.
@@ -228,8 +269,13 @@ fn put_row(
     requires { ⌜ 6 * (t + 1) ≤ length (now rows) ⌝ }
     ensures { λ _. ⌜ now (rows .exit) ≡ sets (now (rows .entry)) (6 * t) (label ∷ (first ∷ (second ∷ (start ∷ (inputs ∷ (outputs ∷ [])))))) ⌝ }
 {
-    let row = [label, first, second, start, inputs, outputs];
-    put(rows, 6 * t, &row, 6);
+    let at = 6 * t;
+    rows[at] = label;
+    rows[at + 1] = first;
+    rows[at + 2] = second;
+    rows[at + 3] = start;
+    rows[at + 4] = inputs;
+    rows[at + 5] = outputs;
 }
 
 // Transition t of the list: its arcs, and its row. Answers where its arcs end.

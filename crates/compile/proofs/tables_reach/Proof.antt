@@ -5,8 +5,5 @@ use borrow.Author.Needs.{needs}
 use Rattle.compile.proofs.tables_reach.Statement.{statement}
 use Rattle.compile.proofs.tables_reach.Tie as tie
 
-returns : tie.Need-returns
-returns c = refl
-
 pub tables-reach-spec : {M : Type 1} → statement M
-tables-reach-spec = tie.close (tie.spec (λ c. search needs) returns)
+tables-reach-spec = tie.close (tie.spec (λ c. search needs) (λ c. refl))

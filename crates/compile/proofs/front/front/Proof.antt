@@ -6,9 +6,6 @@ use borrow.Author.Needs.{needs}
 use Rattle.compile.proofs.front.front.Statement.{statement}
 use Rattle.compile.proofs.front.front.Tie as tie
 
-read-plan-in-requires : tie.Need-read-plan-in-requires
-read-plan-in-requires c κs = λ h. c .before .before .before .before .before .pre .0 h .0
-
 judge-requires : tie.Need-judge-requires
 judge-requires c κs =
     let s = c .before .before .before .before .before .before .before .before .before .before .before .before .before .before in
@@ -35,7 +32,7 @@ pub front-spec : {M : Type 1} → statement M
 front-spec =
     tie.close
     (tie.spec
-    read-plan-in-requires
+    (λ c κs. λ h. c .before .before .before .before .before .pre .0 h .0)
     (λ c. search needs)
     (λ c. search needs)
     judge-requires

@@ -4,7 +4,7 @@ use Prim.Native.Nat.{ℕ, _<_}
 use native.Mathlib.Omega.{arith}
 use borrow.Fn.Kinds.{In}
 use borrow.Fn.PlainCycle.{Measures, is, falls, and}
-use Rattle.arcs.proofs.MoveTold.{product-fits}
+use Rattle.boxes.proofs.CountedByTag.{product-fits}
 use Rattle.spread.proofs.Chains.{counts-none, counts-never, counts-next}
 use Rattle.spread.proofs.placing.count_chain.Reads as count-chain
 use Rattle.spread.proofs.placing.count_chain.Kinds as count-chain-kinds
@@ -36,16 +36,16 @@ pub +count-chain-spec : {M : Type 1} → statement M
     count-chain.Post
     (λ c. let s = c .before .before in
     let a = s .args in
-    (s .pre .1 .2, counts-none (a .lists .now) (a .side) (a .below) (a .times) (a .up) (a .count) (c .if1 .taken)))
+    (s .pre .1 .3, counts-none (a .lists .now) (a .side) (a .below) (a .times) (a .up) (a .count) (c .if1 .taken)))
     (λ c. let s = c .before .before .before in
     let a = s .args in
-    (s .pre .1 .2, counts-never (a .lists .now) (a .side) (a .below) (a .times) (a .up) (a .count) (a .count) (c .before .if1 .left) (c .if2 .taken)))
-    (λ c κs. c .before .before .before .pre .1 .1)
-    (λ c κs. omega (arith, c .place-of .ensures .1))
+    (s .pre .1 .3, counts-never (a .lists .now) (a .side) (a .below) (a .times) (a .up) (a .count) (a .count) (c .before .if1 .left) (c .if2 .taken)))
+    (λ c κs. c .before .before .before .pre .1 .2)
+    (λ c κs. omega (arith, c .place-of .ensures .1, c .before .before .before .before .pre .1 .0, c .before .if2 .left))
     (λ c. let s = c .before .before .before .before .before in
-    omega (arith, product-fits (s .pre .1 .0) (s .pre .1 .2)))
+    omega (arith, product-fits (s .pre .1 .1) (s .pre .1 .3)))
     (λ c κs. let s = c .before .before .before .before .before in
-    (omega (arith, s .pre .0, c .before .before .if2 .left), (c .list-at .ensures .1 .times, c .list-at .ensures .1 .up, omega arith)))
+    (omega (arith, s .pre .0, c .before .before .if2 .left), (omega (arith, s .pre .1 .0, c .before .before .if2 .left), c .list-at .ensures .1 .times, c .list-at .ensures .1 .up, omega arith)))
     (λ c. let s = c .before .before .before .before .before .before in
     let a = s .args in
     let r = c .before .list-at in (

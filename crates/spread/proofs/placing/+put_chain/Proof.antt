@@ -5,7 +5,7 @@ use native.Mathlib.Omega.{arith}
 use borrow.Author.Needs.{needs}
 use borrow.Fn.Kinds.{In}
 use borrow.Fn.PlainCycle.{Measures, is, falls, and}
-use Rattle.arcs.proofs.MoveTold.{product-fits}
+use Rattle.boxes.proofs.CountedByTag.{product-fits}
 use Rattle.spread.proofs.Chains.{no-fewer, puts-none, puts-never, puts-next}
 use Rattle.spread.proofs.placing.put_chain.Reads as put-chain
 use Rattle.spread.proofs.placing.put_chain.Kinds as put-chain-kinds
@@ -42,24 +42,25 @@ pub +put-chain-spec : {M : Type 1} → statement M
     puts-none (a .lists .now) (a .side) (a .below) (a .times) (a .step) (a .up) (a .count) (a .out .now) (c .if1 .taken))
     (λ c. let s = c .before .before .before .before in
     let a = s .args in
-    puts-never (a .lists .now) (a .side) (a .below) (a .times) (a .step) (a .up) (a .count) (a .out .now) (a .out .now) (c .before .if1 .left) (s .pre .1 .3) (λ x y z. omega (arith, c .if2 .taken)))
+    puts-never (a .lists .now) (a .side) (a .below) (a .times) (a .step) (a .up) (a .count) (a .out .now) (a .out .now) (c .before .if1 .left) (s .pre .1 .4) (λ x y z. omega (arith, c .if2 .taken)))
     (λ c. let s = c .before .before .before .before .before in
     let a = s .args in
-    puts-never (a .lists .now) (a .side) (a .below) (a .times) (a .step) (a .up) (a .count) (a .out .now) (a .out .now) (c .before .before .if1 .left) (s .pre .1 .3) (λ x y z. omega (arith, c .if3 .taken)))
+    puts-never (a .lists .now) (a .side) (a .below) (a .times) (a .step) (a .up) (a .count) (a .out .now) (a .out .now) (c .before .before .if1 .left) (s .pre .1 .4) (λ x y z. omega (arith, c .if3 .taken)))
     (λ c. let s = c .before .before .before .before .before in
-    omega (arith, product-fits {a = s .args .times} {b = s .args .count} (s .pre .1 .0) (omega (arith, c .if3 .left, s .pre .1 .4))))
+    omega (arith, product-fits {a = s .args .times} {b = s .args .count} (s .pre .1 .1) (omega (arith, c .if3 .left, s .pre .1 .5))))
     (λ c. let s = c .before .before .before .before .before .before in
     let a = s .args in
-    puts-never (a .lists .now) (a .side) (a .below) (a .times) (a .step) (a .up) (a .count) (a .out .now) (a .out .now) (c .before .before .before .if1 .left) (s .pre .1 .3) (λ x y z. omega (arith, c .if4 .taken)))
+    puts-never (a .lists .now) (a .side) (a .below) (a .times) (a .step) (a .up) (a .count) (a .out .now) (a .out .now) (c .before .before .before .if1 .left) (s .pre .1 .4) (λ x y z. omega (arith, c .if4 .taken)))
     (λ c κs. let s = c .before .before .before .before .before .before .before in
     let a = s .args in
-    (s .pre .1 .3, no-fewer (a .times) (a .count) (omega (arith, c .before .before .before .before .if1 .left)), omega (arith, c .before .if4 .left), s .pre .1 .4, s .pre .1 .1))
+    (s .pre .1 .4, no-fewer (a .times) (a .count) (omega (arith, c .before .before .before .before .if1 .left)), omega (arith, c .before .if4 .left), s .pre .1 .5, s .pre .1 .2))
     (λ c κs. search needs)
-    (λ c κs. search needs)
+    (λ c κs. let s = c .before .before .before .before .before .before .before .before .before .before .before in
+    omega (arith, c .place-of .ensures .1, s .pre .1 .0, c .before .before .before .before .before .before .before .if2 .left))
     (λ c κs. let s = c .before .before .before .before .before .before .before .before .before .before .before .before .before in
     let a = s .args in
     let r = c .before .list-at .ensures .1 in
-    (omega (arith, s .pre .0, c .before .before .before .before .before .before .before .before .before .if2 .left), (r .times, r .step, r .up, omega (arith, no-fewer (a .times) (a .count) (omega (arith, c .before .before .before .before .before .before .before .before .before .before .if1 .left)), s .pre .1 .3), omega (arith, c .before .before .before .before .before .put-copies .ensures .long, s .pre .1 .4))))
+    (omega (arith, s .pre .0, c .before .before .before .before .before .before .before .before .before .if2 .left), (omega (arith, s .pre .1 .0, c .before .before .before .before .before .before .before .before .before .if2 .left), r .times, r .step, r .up, omega (arith, no-fewer (a .times) (a .count) (omega (arith, c .before .before .before .before .before .before .before .before .before .before .if1 .left)), s .pre .1 .4), omega (arith, c .before .before .before .before .before .put-copies .ensures .long, s .pre .1 .5))))
     (λ c. search needs)
     (λ c. let s = c .before .before .before .before .before .before .before .before .before .before .before .before .before .before .before .before in
     let a = s .args in
@@ -67,4 +68,4 @@ pub +put-chain-spec : {M : Type 1} → statement M
     let at = c .before .before .before .before .before .place-of in
     let r = c .before .before .before .before .list-at in
     let go = c .before .before .put-chain in
-    puts-next (a .lists .now) (a .side) (a .below) (a .times) (a .step) (a .up) (a .count) (a .out .now) (on .last .0) (go .last .1 .1 .1 .1 .1 .1 .0) (at .result) (r .result) (c .before .before .before .before .before .before .before .before .before .before .before .before .before .if1 .left) (s .pre .1 .3) (on .ensures) (at .ensures .0) (r .ensures .0) (go .ensures))
+    puts-next (a .lists .now) (a .side) (a .below) (a .times) (a .step) (a .up) (a .count) (a .out .now) (on .last .0) (go .last .1 .1 .1 .1 .1 .1 .0) (at .result) (r .result) (c .before .before .before .before .before .before .before .before .before .before .before .before .before .if1 .left) (s .pre .1 .4) (on .ensures) (at .ensures .0) (r .ensures .0) (go .ensures))

@@ -16,30 +16,12 @@ Inv-loop kinds₀ start count kind at₀ left₀ kinds at left =
 abbrev μ-loop : tie.MeasureT-loop
 μ-loop kinds₀ start count kind at₀ left₀ kinds at left = left
 
-loop-holds : tie.Need-loop-holds Inv-loop μ-loop
-loop-holds c = (refl, c .pre, refl)
-
-slice-write-kinds : tie.Need-slice-write-kinds Inv-loop μ-loop
-slice-write-kinds c = omega arith
-
-add-at : tie.Need-add-at Inv-loop μ-loop
-add-at c = omega arith
-
-sub-left : tie.Need-sub-left Inv-loop μ-loop
-sub-left c = omega arith
-
-loop-less : tie.Need-loop-less Inv-loop μ-loop
-loop-less c = omega arith
-
 loop-again : tie.Need-loop-again Inv-loop μ-loop
 loop-again c =
     let l = c .before .loop in
     let kind = c .before .before .args .kind in
     let e = length-set (l .kinds) (l .at) kind in
     (l .inv .0 ∙ one-stored (l .kinds) (l .at) (l .left) kind (omega arith), omega (arith, e), omega (arith, e))
-
-same-length : tie.Need-same-length Inv-loop μ-loop
-same-length c = c .before .loop .inv .2
 
 returns : tie.Need-returns Inv-loop μ-loop
 returns c =
@@ -54,11 +36,11 @@ write-run-spec =
     (tie.spec
     Inv-loop
     μ-loop
-    loop-holds
-    slice-write-kinds
-    add-at
-    sub-left
-    loop-less
+    (λ c. (refl, c .pre, refl))
+    (λ c. omega arith)
+    (λ c. omega arith)
+    (λ c. omega arith)
+    (λ c. omega arith)
     loop-again
-    same-length
+    (λ c. c .before .loop .inv .2)
     returns)

@@ -1,9 +1,8 @@
 -- `count_arcs` meets its contract. The loop's invariant: what is counted, and the arcs of the transitions that are left, are all arcs.
 -- The measure is how many are left. Assumes nothing.
-use Prim.Native.Nat.{_*_, _-_, _≤_}
+use Prim.Native.Nat.{_+_, _*_, _-_, _≤_}
 use native.Mathlib.Omega.{arith}
 use mathlib.Core.Path.{ap}
-use Prim.Native.Nat.{_+_}
 use borrow.Author.Needs.{needs}
 use Rattle.tables.specs.Rows.{told-arcs}
 use Rattle.tables.proofs.Counted.{Counts, none-counted, next-counted, all-counted}
