@@ -48,17 +48,17 @@ module _ (E : Expr) (exclusive : LoopsExclusive E) (scopes : ScopesNamed E) wher
   abbrev pub net : List Transition
   net = net-of E .transitions
 
-  abbrev pub After : List (List Item) → List ℕ → Type 0
-  After R m = fire-in-order net (entry-marking (net-of E)) R ≡ good m
+  abbrev pub FiredTo : List (List Item) → List ℕ → Type 0
+  FiredTo R m = fire-in-order net (entry-marking (net-of E)) R ≡ good m
 
-  from-started : (R : List (List Item)) (m : List ℕ) → After R m → fire-in-order net (marking-of (started {E = E})) R ≡ good m
+  from-started : (R : List (List Item)) (m : List ℕ) → FiredTo R m → fire-in-order net (marking-of (started {E = E})) R ≡ good m
   from-started R m e = subst (λ l. fire-in-order net l R ≡ good m) (sym (started-marking E)) e
 
-  reached : (R : List (List Item)) (m : List ℕ) → After R m → LeadsTo E exclusive scopes started R m
+  reached : (R : List (List Item)) (m : List ℕ) → FiredTo R m → LeadsTo E exclusive scopes started R m
   reached R m e = fired-derived E exclusive scopes started R m (from-started R m e)
 
   -- A list of steps fires in order from the entry marking if and only if the calculus derives it from the started plan.
-  pub fires-iff-derived : (R : List (List Item)) → ((m : List ℕ) × After R m) ↔ ((D : Dynamic E) × Derived E R D)
+  pub fires-iff-derived : (R : List (List Item)) → ((m : List ℕ) × FiredTo R m) ↔ ((D : Dynamic E) × Derived E R D)
   fires-iff-derived R = (
     λ f. let l = reached R (f .0) (f .1) in (l .to, l .steps),
     λ d. (marking-of (d .0), subst (λ l. fire-in-order net l R ≡ good (marking-of (d .0))) (started-marking E) (derived-fired E exclusive scopes (d .1))),
@@ -70,7 +70,7 @@ module _ (E : Expr) (exclusive : LoopsExclusive E) (scopes : ScopesNamed E) wher
     pub marking : (D : Dynamic E) → Derived E R D → marking-of D ≡ m
     pub equal : (D C : Dynamic E) → Derived E R D → Derived E R C → Equal E D C
 
-  pub one-state : (R : List (List Item)) (m : List ℕ) → After R m → OneState R m
+  pub one-state : (R : List (List Item)) (m : List ℕ) → FiredTo R m → OneState R m
   one-state R m e = record {
     some = let l = reached R m e in (l .to, l .steps);
     marking = λ D d. derived-marking E exclusive scopes (from-started R m e) d;
@@ -84,7 +84,7 @@ module _ (E : Expr) (exclusive : LoopsExclusive E) (scopes : ScopesNamed E) wher
     pub not-derived : (D D′ : Dynamic E) (S′ : List Item) → Derived E R D → Bag S′ S → Step 0 E D S′ D′ → ⊥
     pub number : (n ≡ no-transition) ⊎ ((n ≡ input-empty) ⊎ (n ≡ input-shared))
 
-  pub next-refused : (R : List (List Item)) (S : List Item) (m : List ℕ) (n c : ℕ) → After R m → fire-items net m S ≡ refused n c → NextRefused R S n
+  pub next-refused : (R : List (List Item)) (S : List Item) (m : List ℕ) (n c : ℕ) → FiredTo R m → fire-items net m S ≡ refused n c → NextRefused R S n
   next-refused R S m n c e r = record { before = one-state R m e .some; not-derived = never; number = which (subst (λ k. FireRefused net k S n) (sym (l .marked)) (fire-refused net m S n c r)) }
     where
       l : LeadsTo E exclusive scopes started R m
@@ -110,7 +110,7 @@ module _ (E : Expr) (exclusive : LoopsExclusive E) (scopes : ScopesNamed E) wher
     pub clean : T (exits-marked (net-of E) m) → m ≡ replicate (net-of E .entries) 0 ++ (replicate (net-of E .internals) 0 ++ replicate (net-of E .exits) 1)
     pub stuck : T (exits-marked (net-of E) m) → enabled-from 0 m net ≡ []
 
-  pub safe-and-clean : (R : List (List Item)) (m : List ℕ) → After R m → SafeAndClean m
+  pub safe-and-clean : (R : List (List Item)) (m : List ℕ) → FiredTo R m → SafeAndClean m
   safe-and-clean R m e = subst SafeAndClean (l .marked) (record {
     safe = marking-flat (l .to) exclusive;
     clean = λ h. equal-marking (exits-finished (l .to) h) ∙ finished-marking E;

@@ -22,11 +22,11 @@ abbrev pub Differ : {A K : Type 0} → (A → K) → List A → Type 0
 Differ key [] = Unit {0}
 Differ {A} key (x ∷ xs) = ((y : A) → List·Memᴰ y xs → key x ≡ key y → ⊥) × Differ key xs
 
-abbrev pub item-of : Labelled → Item
-item-of t = t .item
+abbrev pub its-item : Labelled → Item
+its-item t = t .item
 
 abbrev pub Unlike : List Labelled → Type 0
-Unlike ts = Differ item-of ts
+Unlike ts = Differ its-item ts
 
 abbrev first-of : Labelled → ℕ
 first-of t = first (t .item)
@@ -96,7 +96,7 @@ record Told (ts : List Labelled) : Type 0 where
 told-append : (m : ℕ) (ts us : List Labelled) → ((t : Labelled) → List·Memᴰ t ts → first (t .item) < m) → ((u : Labelled) → List·Memᴰ u us → m ≤ first (u .item))
     → Told ts → Told us → Told (ts ++ us)
 told-append m ts us below above p q = record {
-  unlike = differ-append item-of ts us (p .unlike) (q .unlike) (λ t u k l e. apart t u k l (ap first e));
+  unlike = differ-append its-item ts us (p .unlike) (q .unlike) (λ t u k l e. apart t u k l (ap first e));
   not-alone = λ t u i j k l e f. alone t u i j (List·Memᴰ·append-cases ts k) (List·Memᴰ·append-cases ts l) e f;
   pair-silent = λ t i j k e. ⊎-elim (λ k. p .pair-silent t i j k e) (λ k. q .pair-silent t i j k e) (List·Memᴰ·append-cases ts k);
 }
@@ -121,7 +121,7 @@ told-action n l = record {
 }
   where
     no-pair : (t : Labelled) (i j : ℕ) → List·Memᴰ t (record { label = l; item = one n } ∷ []) → t .item ≡ two i j → ⊥
-    no-pair t i j k e = never-both (t .item) n i j (ap item-of (List·Memᴰ·eq-of-singleton k)) e
+    no-pair t i j k e = never-both (t .item) n i j (ap its-item (List·Memᴰ·eq-of-singleton k)) e
 
 two-same : (i i′ j j′ : ℕ) → two i j ≡ two i′ j′ → (i ≡ i′) × (j ≡ j′)
 two-same i i′ j j′ e = (cc, cc)
@@ -137,8 +137,8 @@ module _ (n : ℕ) (E : Expr) (a : ℕ) (ts : List Labelled) (some : 1 ≤ a) (t
 
   single-firsts-differ : (b : ℕ) → 1 ≤ b → Differ first-of (select (labelled b) ts)
   single-firsts-differ b h =
-      differ-finer item-of first-of (select (labelled b) ts) same
-      (differ-select item-of (labelled b) ts (told .unlike))
+      differ-finer its-item first-of (select (labelled b) ts) same
+      (differ-select its-item (labelled b) ts (told .unlike))
     where
       same : (t u : Labelled) → List·Memᴰ t (select (labelled b) ts) → List·Memᴰ u (select (labelled b) ts) → first (t .item) ≡ first (u .item) → t .item ≡ u .item
       same t u k l e =
@@ -152,7 +152,7 @@ module _ (n : ℕ) (E : Expr) (a : ℕ) (ts : List Labelled) (some : 1 ≤ a) (t
       let left = select (labelled a) ts in
       let right = select (labelled (a + 128)) ts in
       let ok : Pair → Bool = λ p. part-at-parallel n E (first (p .t .item)) (first (p .u .item)) in
-      differ-map silent item-of (select ok (product paired left right))
+      differ-map silent its-item (select ok (product paired left right))
       (differ-select (λ (p : Pair). silent p .item) ok (product paired left right)
       (differ-product paired first-of first-of (λ (p : Pair). silent p .item)
       (λ t t′ u u′. two-same (first-of t) (first-of t′) (first-of u) (first-of u′)) left right
@@ -160,7 +160,7 @@ module _ (n : ℕ) (E : Expr) (a : ℕ) (ts : List Labelled) (some : 1 ≤ a) (t
 
   -- a joined transition has the pair of two single actions that are taken away
   joined-item : (v : Labelled) → (j : JoinedOf n E a ts v) → v .item ≡ two (first (j .t .item)) (first (j .u .item))
-  joined-item v j = ap item-of (j .made)
+  joined-item v j = ap its-item (j .made)
 
   joined-first : (v : Labelled) → (j : JoinedOf n E a ts v) → j .t .item ≡ one (first (j .t .item))
   joined-first v j = single a some (j .t) (j .t-in) (j .t-labelled)
@@ -168,7 +168,7 @@ module _ (n : ℕ) (E : Expr) (a : ℕ) (ts : List Labelled) (some : 1 ≤ a) (t
   told-scope : Told (kept a ts ++ joined n E a ts)
   unfolding kept
   told-scope = record {
-    unlike = differ-append item-of (kept a ts) (joined n E a ts) (differ-select item-of (stays a) ts (told .unlike)) joined-unlike apart;
+    unlike = differ-append its-item (kept a ts) (joined n E a ts) (differ-select its-item (stays a) ts (told .unlike)) joined-unlike apart;
     not-alone = λ t u i j k l e f. alone t u i j (List·Memᴰ·append-cases (kept a ts) k) (List·Memᴰ·append-cases (kept a ts) l) e f;
     pair-silent = λ t i j k e.
         ⊎-elim (λ k. told .pair-silent t i j (select-member (stays a) ts k .0) e) (λ k. ap (λ (t : Labelled). t .label) (joined-member n E a ts k .made)) (List·Memᴰ·append-cases (kept a ts) k);
@@ -184,7 +184,7 @@ module _ (n : ℕ) (E : Expr) (a : ℕ) (ts : List Labelled) (some : 1 ≤ a) (t
       gone v u i k j m e f =
           let r = select-member (stays a) ts m in
           let firsts = two-same (first (j .t .item)) i (first (j .u .item)) k (sym (joined-item v j) ∙ e) in
-          let same : j .t ≡ u = differ-same item-of ts (told .unlike) (j .t) u (j .t-in) (r .0) (joined-first v j ∙ ap one (firsts .0) ∙ sym f) in
+          let same : j .t ≡ u = differ-same its-item ts (told .unlike) (j .t) u (j .t-in) (r .0) (joined-first v j ∙ ap one (firsts .0) ∙ sym f) in
           T-not (labelled a u) (and-parts (not (labelled a u)) (not (labelled (a + 128) u)) (r .1) .0) (subst (λ t. T (labelled a t)) same (j .t-labelled))
 
       alone : (t u : Labelled) (i j : ℕ) → List·Memᴰ t (select (stays a) ts) ⊎ List·Memᴰ t (joined n E a ts) → List·Memᴰ u (select (stays a) ts) ⊎ List·Memᴰ u (joined n E a ts)

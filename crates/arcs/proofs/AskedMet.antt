@@ -6,9 +6,9 @@ use mathlib.Core.List.{List, _++_}
 use lib.ListN.{length, take}
 use lib.Seq.{take-at}
 use Rattle.algebra.specs.Expr.{Expr}
-use Rattle.plan.specs.Nodes.{node-count, node-table}
+use Rattle.plan.specs.inner.Nodes.{node-count, node-table}
 use Rattle.plan.proofs.NodeTable.{rows-length}
-use Rattle.boxes.specs.NodeCounts.{node-counts}
+use Rattle.boxes.specs.inner.NodeCounts.{node-counts}
 use Rattle.arcs.proofs.Sizes.{values-length}
 
 counts-length : (E : Expr) → length (node-counts E) ≡ 3 * node-count E

@@ -13,7 +13,7 @@ use Rattle.algebra.specs.Places.{Place, sequence-place, choice-entry, choice-ex
 use Rattle.algebra.specs.Arcs.{consumes, produces}
 use Rattle.algebra.proofs.Products.{product-member}
 use Rattle.algebra.proofs.EntriesAndExits.{entries-not-produced, exits-not-consumed}
-use Rattle.arcs.specs.Moves.{passes, Box, box, Off}
+use Rattle.arcs.specs.inner.Moves.{passes, Box, box, Off}
 use Rattle.arcs.specs.declared.sides.Side.{Side}
 use Rattle.arcs.specs.declared.sides.Side.the-variants.{Inputs, Outputs}
 use Rattle.arcs.proofs.Ones.{either, off-append, off-either}

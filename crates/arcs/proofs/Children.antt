@@ -5,12 +5,12 @@ use native.Mathlib.Omega.{arith}
 use mathlib.Core.Path.{_≡_, _∙_, ap}
 use mathlib.Core.List.{List, _∷_, _++_}
 use Rattle.algebra.specs.Expr.{Expr, action, sequence, choice, parallel, loop, scope, actions}
-use Rattle.plan.specs.Nodes.{Row, numbers, nodes, node-count}
-use Rattle.plan.specs.Table.{Stands, Node, tag-at, after-at, values}
+use Rattle.plan.specs.inner.Nodes.{Row, numbers, nodes, node-count}
+use Rattle.plan.specs.inner.Table.{Stands, Node, tag-at, after-at, values}
 use Rattle.plan.proofs.NodeTable.{tag-of, node-says, sequence-operands, choice-operands, parallel-operands, loop-operands, scope-operand}
 use Rattle.plan.proofs.NodeValues.{node-count-positive}
-use Rattle.boxes.specs.NodeCounts.{counts-of}
-use Rattle.arcs.specs.Nodes.{first-at, At}
+use Rattle.boxes.specs.inner.NodeCounts.{box-counts}
+use Rattle.arcs.specs.inner.Nodes.{first-at, At}
 use Rattle.arcs.proofs.Sizes.{counts-behind, counts-split}
 
 module _ (rows table : List ℕ) (count : ℕ) where
@@ -44,13 +44,13 @@ module _ (rows table : List ℕ) (count : ℕ) where
   abbrev pub Two : ℕ → ℕ → Expr → Expr → Type 0
   Two k n E F = At rows table count (k + 1) n E × At rows table count (k + 1 + node-count E) (n + actions E) F
 
-  counts-of-two : (k : ℕ) (X E F : Expr) → Stands table (3 * k) (counts-of X ++ (values counts-of E ++ values counts-of F))
-      → Stands table (3 * (k + 1)) (values counts-of E) × Stands table (3 * (k + 1 + node-count E)) (values counts-of F)
+  counts-of-two : (k : ℕ) (X E F : Expr) → Stands table (3 * k) (box-counts X ++ (values box-counts E ++ values box-counts F))
+      → Stands table (3 * (k + 1)) (values box-counts E) × Stands table (3 * (k + 1 + node-count E)) (values box-counts F)
   counts-of-two k X E F s =
-      counts-split table (k + 1) E (values counts-of F) (counts-behind table k X (values counts-of E ++ values counts-of F) s)
+      counts-split table (k + 1) E (values box-counts F) (counts-behind table k X (values box-counts E ++ values box-counts F) s)
 
   both : (k n : ℕ) {a b : ℕ} (E F : Expr) → Node rows count (k + 1) n a E × Node rows count (k + 1 + node-count E) (n + actions E) b F
-      → Stands table (3 * (k + 1)) (values counts-of E) × Stands table (3 * (k + 1 + node-count E)) (values counts-of F) → Two k n E F
+      → Stands table (3 * (k + 1)) (values box-counts E) × Stands table (3 * (k + 1 + node-count E)) (values box-counts F) → Two k n E F
   both k n {a} {b} E F d s =
       (record { offset = a; node = d .0; counted = s .0 }, record { offset = b; node = d .1; counted = s .1 })
 
@@ -71,15 +71,15 @@ module _ (rows table : List ℕ) (count : ℕ) where
   unfolding values
   loop-parts {k} {n} E F G h =
       let (d, g) = loop-operands rows count E F G (h .node) in
-      let (s, t) = counts-split table (k + 1) E (values counts-of F ++ values counts-of G)
-      (counts-behind table k (loop E F G) (values counts-of E ++ (values counts-of F ++ values counts-of G)) (h .counted)) in
-      let (u, v) = counts-split table (k + 1 + node-count E) F (values counts-of G) t in
+      let (s, t) = counts-split table (k + 1) E (values box-counts F ++ values box-counts G)
+      (counts-behind table k (loop E F G) (values box-counts E ++ (values box-counts F ++ values box-counts G)) (h .counted)) in
+      let (u, v) = counts-split table (k + 1 + node-count E) F (values box-counts G) t in
       (both k n E F d (s, u), record { offset = _; node = g; counted = v })
 
   pub scope-part : {k n a : ℕ} (E : Expr) → At rows table count k n (scope a E) → At rows table count (k + 1) n E
   unfolding values
   scope-part {k} {n} {a} E h =
-      record { offset = _; node = scope-operand rows count E (h .node); counted = counts-behind table k (scope a E) (values counts-of E) (h .counted) }
+      record { offset = _; node = scope-operand rows count E (h .node); counted = counts-behind table k (scope a E) (values box-counts E) (h .counted) }
 
   -- Where the second and the third operand are.
   module _ (k n : ℕ) (E F : Expr) (parts : Two k n E F) where

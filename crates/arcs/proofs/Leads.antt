@@ -10,9 +10,9 @@ use borrow.Author.Tests.{eq-eqb}
 use Rattle.algebra.specs.Expr.{Expr, action, sequence, choice, parallel, loop, scope, actions}
 use Rattle.algebra.specs.Places.{entries, internals, exits, places}
 use Rattle.algebra.specs.Arcs.{numbers, consumes, produces}
-use Rattle.arcs.specs.Positions.{ones, stretched, repeated}
-use Rattle.arcs.specs.Moves.{Kind, Entry, Internal, Exit, First, Second, Third, Move, passes, own, Box, box, Lies, moved, shift, sequence-move, choice-move, parallel-move, loop-move}
-use Rattle.arcs.specs.Spreads.{copied, placed, Spreads, plain, list-of, under}
+use Rattle.arcs.specs.inner.Positions.{ones, stretched, repeated}
+use Rattle.arcs.specs.inner.Moves.{Kind, Entry, Internal, Exit, First, Second, Third, Move, passes, own, Box, box, Lies, moved, shift, sequence-move, choice-move, parallel-move, loop-move}
+use Rattle.arcs.specs.inner.Spreads.{copied, placed, Spreads, plain, list-of, under}
 use Rattle.arcs.specs.declared.sides.Side.{Side}
 use Rattle.arcs.specs.declared.sides.Side.the-variants.{Inputs, Outputs}
 use Rattle.boxes.specs.declared.counts.Counts.{Counts}

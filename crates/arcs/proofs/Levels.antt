@@ -7,8 +7,8 @@ use mathlib.Core.Bool.{Bool, _||_}
 use mathlib.Core.List.{List, _++_}
 use lib.ListN.{length}
 use Rattle.algebra.proofs.Products.{product-length}
-use Rattle.arcs.specs.Positions.{ones, stretched, repeated}
-use Rattle.arcs.specs.Moves.{Kind, Entry, Internal, Exit, First, Second, Third, Move, Box, Off, Lies, moved, move, shift, sequence-move, choice-move, parallel-move, loop-move}
+use Rattle.arcs.specs.inner.Positions.{ones, stretched, repeated}
+use Rattle.arcs.specs.inner.Moves.{Kind, Entry, Internal, Exit, First, Second, Third, Move, Box, Off, Lies, moved, move, shift, sequence-move, choice-move, parallel-move, loop-move}
 use Rattle.boxes.specs.declared.counts.Counts.{Counts}
 use Rattle.arcs.proofs.Ones.{rep, each, either, each-of, rep-of, rep-rep, each-each, each-rep, each-one, rep-one, ones-before, ones-behind, ones-widened, off-append, off-either}
 

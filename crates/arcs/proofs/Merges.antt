@@ -14,7 +14,7 @@ use borrow.Author.Tests.{lt-ltb, le-ltb}
 use Rattle.algebra.specs.Places.{Place}
 use Rattle.algebra.specs.Arcs.{numbers}
 use Rattle.plan.proofs.Stores.{sets-append}
-use Rattle.arcs.specs.Merge.{into, union, Below, Run, Merged}
+use Rattle.arcs.specs.inner.Merge.{into, union, Below, Run, Merged}
 
 into-low : (a : ℕ) (rest : List ℕ → List ℕ) (b : ℕ) (bs : List ℕ) → a < b → into a rest (b ∷ bs) ≡ a ∷ rest (b ∷ bs)
 unfolding into

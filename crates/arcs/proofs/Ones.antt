@@ -9,8 +9,8 @@ use mathlib.Core.List.{List, [], _∷_, _++_, map, append-assoc, append-nil}
 use lib.ListN.{length, getD, replicate, length-append, length-replicate, replicate-append-replicate}
 use Rattle.algebra.specs.Places.{Place, product}
 use Rattle.algebra.specs.Arcs.{numbers}
-use Rattle.arcs.specs.Positions.{ones, run, stretched, repeated}
-use Rattle.arcs.specs.Moves.{Off}
+use Rattle.arcs.specs.inner.Positions.{ones, run, stretched, repeated}
+use Rattle.arcs.specs.inner.Moves.{Off}
 
 -- The whole list so many times.
 unfoldable pub rep : ℕ → List Bool → List Bool

@@ -9,7 +9,7 @@ use mathlib.Core.List.{List, [], _∷_, _++_, map}
 use lib.ListN.{length, getD, length-append, length-map, List·getD-append}
 use lib.Seq.{getD-append-add}
 use Rattle.algebra.proofs.Products.{map-at}
-use Rattle.arcs.specs.Positions.{run, stretched, repeated}
+use Rattle.arcs.specs.inner.Positions.{run, stretched, repeated}
 
 pub run-length : (a n : ℕ) → length (run a n) ≡ n
 unfolding run

@@ -9,13 +9,13 @@ use Rattle.field.specs.Limits.{place-limit}
 use Rattle.algebra.specs.Expr.{Expr, action, sequence, choice, parallel, loop, scope}
 use Rattle.algebra.specs.Places.{entries, internals, exits}
 use Rattle.algebra.proofs.Lengths.{entries-of, exits-of, internals-of, entries-length, exits-length, internals-length}
-use Rattle.plan.specs.Nodes.{node-count}
-use Rattle.plan.specs.Table.{Stands, values}
+use Rattle.plan.specs.inner.Nodes.{node-count}
+use Rattle.plan.specs.inner.Table.{Stands, values}
 use Rattle.plan.proofs.Stands.{stands-first, stands-second, stands-at}
-use Rattle.boxes.specs.NodeCounts.{counts-of}
+use Rattle.boxes.specs.inner.NodeCounts.{box-counts}
 use Rattle.boxes.proofs.CountsCutOff.{entry-count-is, exit-count-is, internal-count-is}
-use Rattle.arcs.specs.Moves.{passes, box}
-use Rattle.boxes.specs.Counted.{counts-at}
+use Rattle.arcs.specs.inner.Moves.{passes, box}
+use Rattle.boxes.specs.inner.Counted.{counts-at}
 use Rattle.arcs.specs.declared.sides.Side.{Side}
 use Rattle.boxes.specs.declared.counts.Counts.{Counts}
 use Rattle.boxes.proofs.CountedByTag.{same-counts}
@@ -31,8 +31,8 @@ box-lengths side i n E = same-counts
     (length-map (exits n E) (passes side i) ∙ exits-length n E)
 
 -- ---- the counts in the table
-pub values-length : (E : Expr) → length (values counts-of E) ≡ 3 * node-count E
-unfolding values counts-of node-count
+pub values-length : (E : Expr) → length (values box-counts E) ≡ 3 * node-count E
+unfolding values box-counts node-count
 values-length (action l) = refl
 values-length (sequence E F) = simp length-append (omega (arith, values-length E, values-length F))
 values-length (choice E F) = simp length-append (omega (arith, values-length E, values-length F))
@@ -44,15 +44,15 @@ values-length (scope a E) = omega (arith, values-length E)
 unfoldable below : Expr → List ℕ
 unfolding values
 below (action l) = []
-below (sequence E F) = values counts-of E ++ values counts-of F
-below (choice E F) = values counts-of E ++ values counts-of F
-below (parallel E F) = values counts-of E ++ values counts-of F
-below (loop E F G) = values counts-of E ++ (values counts-of F ++ values counts-of G)
-below (scope a E) = values counts-of E
+below (sequence E F) = values box-counts E ++ values box-counts F
+below (choice E F) = values box-counts E ++ values box-counts F
+below (parallel E F) = values box-counts E ++ values box-counts F
+below (loop E F G) = values box-counts E ++ (values box-counts F ++ values box-counts G)
+below (scope a E) = values box-counts E
 
-values-own : (E : Expr) → values counts-of E ≡ counts-of E ++ below E
+values-own : (E : Expr) → values box-counts E ≡ box-counts E ++ below E
 unfolding below values
-values-own (action l) = sym (append-nil (counts-of (action l)))
+values-own (action l) = sym (append-nil (box-counts (action l)))
 values-own (sequence E F) = refl
 values-own (choice E F) = refl
 values-own (parallel E F) = refl
@@ -60,11 +60,11 @@ values-own (loop E F G) = refl
 values-own (scope a E) = refl
 
 module _ (table : List ℕ) where
-  own-counts : (k : ℕ) (E : Expr) → Stands table (3 * k) (values counts-of E) → Stands table (3 * k) (counts-of E)
-  own-counts k E s = stands-first table (3 * k) (counts-of E) (below E) (subst (Stands table (3 * k)) (values-own E) s)
+  own-counts : (k : ℕ) (E : Expr) → Stands table (3 * k) (values box-counts E) → Stands table (3 * k) (box-counts E)
+  own-counts k E s = stands-first table (3 * k) (box-counts E) (below E) (subst (Stands table (3 * k)) (values-own E) s)
 
-  pub counts-here : (k : ℕ) (E : Expr) → Stands table (3 * k) (values counts-of E) → entries-of E ≤ place-limit → internals-of E ≤ place-limit → exits-of E ≤ place-limit → counts-at table k ≡ sizes E
-  unfolding counts-of
+  pub counts-here : (k : ℕ) (E : Expr) → Stands table (3 * k) (values box-counts E) → entries-of E ≤ place-limit → internals-of E ≤ place-limit → exits-of E ≤ place-limit → counts-at table k ≡ sizes E
+  unfolding box-counts
   counts-here k E s es is xs =
       let c = own-counts k E s in
       same-counts
@@ -73,13 +73,13 @@ module _ (table : List ℕ) where
       (c 2 (omega arith) ∙ exit-count-is E ∙ omega arith)
 
   -- Behind a node's own counts are those of its operands.
-  pub counts-behind : (k : ℕ) (E : Expr) (l : List ℕ) → Stands table (3 * k) (counts-of E ++ l) → Stands table (3 * (k + 1)) l
-  unfolding counts-of
-  counts-behind k E l s = stands-at table l (omega arith) (stands-second table (3 * k) (counts-of E) l s)
+  pub counts-behind : (k : ℕ) (E : Expr) (l : List ℕ) → Stands table (3 * k) (box-counts E ++ l) → Stands table (3 * (k + 1)) l
+  unfolding box-counts
+  counts-behind k E l s = stands-at table l (omega arith) (stands-second table (3 * k) (box-counts E) l s)
 
-  pub counts-split : (k : ℕ) (E : Expr) (l : List ℕ) → Stands table (3 * k) (values counts-of E ++ l)
-      → Stands table (3 * k) (values counts-of E) × Stands table (3 * (k + node-count E)) l
+  pub counts-split : (k : ℕ) (E : Expr) (l : List ℕ) → Stands table (3 * k) (values box-counts E ++ l)
+      → Stands table (3 * k) (values box-counts E) × Stands table (3 * (k + node-count E)) l
   counts-split k E l s = (
-    stands-first table (3 * k) (values counts-of E) l s,
-    stands-at table l (omega (arith, values-length E)) (stands-second table (3 * k) (values counts-of E) l s),
+    stands-first table (3 * k) (values box-counts E) l s,
+    stands-at table l (omega (arith, values-length E)) (stands-second table (3 * k) (values box-counts E) l s),
   )

@@ -9,9 +9,9 @@ use mathlib.Core.List.{List, [], _∷_, _++_, map, map-append, append-nil, appen
 use lib.ListN.{length, getD}
 use lib.Dec.{eqb}
 use borrow.Author.Tests.{eqb-true}
-use Rattle.arcs.specs.Positions.{run, stretched, repeated}
-use Rattle.arcs.specs.Moves.{Kind, Entry, Internal, Exit, Move, moved, move, shift}
-use Rattle.arcs.specs.Spreads.{Factor, Spread, copied, placed, more, lowered, Spreads, plain, list-of, under}
+use Rattle.arcs.specs.inner.Positions.{run, stretched, repeated}
+use Rattle.arcs.specs.inner.Moves.{Kind, Entry, Internal, Exit, Move, moved, move, shift}
+use Rattle.arcs.specs.inner.Spreads.{Factor, Spread, copied, placed, more, lowered, Spreads, plain, list-of, under}
 use Rattle.arcs.proofs.Positions.{stretched-length, stretched-at, repeated-at}
 
 -- ---- runs and copies, stretched

@@ -6,8 +6,8 @@ use native.Mathlib.Nat.{mul-le-mul, mul-comm, mul-assoc, add-mul, mul-one, one-m
 use mathlib.Core.Path.{_≡_, sym, ap}
 use Rattle.algebra.specs.Expr.{Expr, sequence, choice, parallel, loop, scope}
 use Rattle.algebra.proofs.Lengths.{entries-of, exits-of, internals-of, entries-some, exits-some}
-use Rattle.arcs.specs.Moves.{Kind, Entry, Internal, Exit, First, Second, Third, Move, move, shift, sequence-move, choice-move, parallel-move, loop-move}
-use Rattle.arcs.specs.Spreads.{Spread, lowered, Spreads, list-of, under}
+use Rattle.arcs.specs.inner.Moves.{Kind, Entry, Internal, Exit, First, Second, Third, Move, move, shift, sequence-move, choice-move, parallel-move, loop-move}
+use Rattle.arcs.specs.inner.Spreads.{Spread, lowered, Spreads, list-of, under}
 use Rattle.arcs.proofs.Sizes.{sizes}
 
 -- A list of so many places, with a spread: its first copy ends below the limit.

@@ -1,5 +1,1 @@
-pub mod Positions
-pub mod Moves
-pub mod Spreads
-pub mod Nodes
-pub mod Merge
+pub mod inner

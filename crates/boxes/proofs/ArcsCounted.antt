@@ -14,7 +14,7 @@ use Rattle.algebra.specs.Transitions.{Labelled, transitions}
 use Rattle.algebra.specs.Arcs.{consumes, produces, by-item, numbers, transition-of, net-of}
 use Rattle.algebra.proofs.JoinedApart.{joined-inputs, joined-outputs}
 use Rattle.net.specs.Tables.{arcs-from, arcs-of}
-use Rattle.boxes.specs.ArcCounts.{item-arcs, listed-arcs, action-arcs}
+use Rattle.boxes.specs.inner.ArcCounts.{item-arcs, listed-arcs, action-arcs}
 
 -- How many arcs a transition has.
 abbrev arcs-at : List Place → Labelled → ℕ

@@ -6,9 +6,9 @@ use native.Mathlib.Nat.{mul-le-mul}
 use mathlib.Core.Path.{_≡_, refl, sym, _∙_, ap, ap₂}
 use mathlib.Core.List.{List}
 use borrow.Author.Tests.{ne-eqb}
-use Rattle.plan.specs.Table.{tag-at, after-at}
+use Rattle.plan.specs.inner.Table.{tag-at, after-at}
 use Rattle.plan.proofs.NodeTable.{is, is-not}
-use Rattle.boxes.specs.Counted.{counts, counts-at, sequence-counts, choice-counts, parallel-counts, loop-counts, counts-by}
+use Rattle.boxes.specs.inner.Counted.{counts, counts-at, sequence-counts, choice-counts, parallel-counts, loop-counts, counts-by}
 use Rattle.boxes.specs.declared.counts.Counts.{Counts}
 
 pub same-counts : {a b c d e f : ℕ} → a ≡ d → b ≡ e → c ≡ f → counts a b c ≡ counts d e f

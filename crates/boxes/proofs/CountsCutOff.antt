@@ -19,7 +19,7 @@ use Rattle.net.specs.Tables.{arcs-from, arcs-of}
 use Rattle.algebra.specs.Places.{places}
 use Rattle.algebra.specs.Transitions.{transitions}
 use Rattle.algebra.specs.Arcs.{transition-of, net-of}
-use Rattle.boxes.specs.Counts.{cut, entry-count, exit-count, internal-count, place-count, transition-count, arcs-up-to, arc-count, check-size}
+use Rattle.boxes.specs.Counts.{cut, entry-count, exit-count, internal-count, places-cut-off, transition-count, arcs-up-to, arc-count, check-size}
 use Rattle.algebra.proofs.Lengths.{entries-of, exits-of, internals-of, places-length}
 
 pub cut-within : (limit n : ℕ) → n ≤ limit → cut limit n ≡ n
@@ -111,8 +111,8 @@ internal-count-is (loop E F G) =
     (product-agrees (product-agrees (exits-agree E) (exits-agree F)) (product-agrees (entries-agree F) (entries-agree G))))) .same
 internal-count-is (scope a E) = internal-count-is E
 
-pub place-count-is : (n : ℕ) (E : Expr) → place-count E ≡ cut place-limit (length (places n E))
-unfolding place-count
+pub place-count-is : (n : ℕ) (E : Expr) → places-cut-off E ≡ cut place-limit (length (places n E))
+unfolding places-cut-off
 place-count-is n E =
     sum-agrees (entries-agree E) (sum-agrees (places-agree (internal-count-is E)) (exits-agree E)) .same
     ∙ ap (cut place-limit) (sym (places-length n E))
@@ -147,8 +147,8 @@ verdict limit count n e = go (leb count limit) refl
     go true t = within (omega (arith, leb-true count limit t))
     go false t = beyond (omega (arith, leb-false count limit t))
 
-places-verdict : (E : Expr) → Verdict place-limit (length (places 0 E)) (leb (place-count E) place-limit)
-places-verdict E = verdict place-limit (place-count E) (length (places 0 E)) (place-count-is 0 E)
+places-verdict : (E : Expr) → Verdict place-limit (length (places 0 E)) (leb (places-cut-off E) place-limit)
+places-verdict E = verdict place-limit (places-cut-off E) (length (places 0 E)) (place-count-is 0 E)
 
 transitions-verdict : (E : Expr) → Verdict transition-limit (length (net-of E .transitions)) (leb (transition-count E) transition-limit)
 transitions-verdict E = verdict transition-limit (transition-count E) (length (net-of E .transitions)) (transition-count-is E)

@@ -7,14 +7,14 @@ use mathlib.Core.List.{List, [], _∷_, _++_}
 use lib.ListN.{length, getD, set, drop, length-set}
 use lib.Seq.{getD-set-same, getD-set-other, lt-length-set}
 use Rattle.algebra.specs.Expr.{Expr, action, sequence, choice, parallel, loop, scope}
-use Rattle.plan.specs.Nodes.{node-count}
-use Rattle.plan.specs.Table.{Table, Stands, Node, after-at, Known}
+use Rattle.plan.specs.inner.Nodes.{node-count}
+use Rattle.plan.specs.inner.Table.{Table, Stands, Node, after-at, Known}
 use Rattle.plan.proofs.Stands.{stands-whole}
 use Rattle.plan.proofs.NodeTable.{node-says, sequence-operands, choice-operands, parallel-operands, loop-operands, scope-operand}
 use Rattle.plan.proofs.NodeValues.{table-node, none-known, one-known, filled}
 use Rattle.boxes.specs.Counts.{entry-count, internal-count, exit-count}
-use Rattle.boxes.specs.NodeCounts.{counts-of, node-counts}
-use Rattle.boxes.specs.Counted.{counts, counts-at, sequence-counts, choice-counts, parallel-counts, loop-counts, counts-by, stored, Counted}
+use Rattle.boxes.specs.inner.NodeCounts.{box-counts, node-counts}
+use Rattle.boxes.specs.inner.Counted.{counts, counts-at, sequence-counts, choice-counts, parallel-counts, loop-counts, counts-by, stored, Counted}
 use Rattle.boxes.specs.declared.counts.Counts.{Counts}
 use Rattle.boxes.proofs.CountedByTag.{same-counts}
 
@@ -22,9 +22,9 @@ use Rattle.boxes.proofs.CountedByTag.{same-counts}
 abbrev expr-counts : Expr → Counts
 expr-counts E = counts (entry-count E) (internal-count E) (exit-count E)
 
-module _ (rows : List ℕ) (count : ℕ) (table : List ℕ) (k : ℕ) (known : Known rows count 3 counts-of (k + 1) table) where
+module _ (rows : List ℕ) (count : ℕ) (table : List ℕ) (k : ℕ) (known : Known rows count 3 box-counts (k + 1) table) where
   at-operand : {m i at : ℕ} (E : Expr) → k + 1 ≤ m → Node rows count m i at E → counts-at table m ≡ expr-counts E
-  unfolding counts-of
+  unfolding box-counts
   at-operand {m} {i} {at} E h n =
       let s = known m i at E h n in
       let p : 3 * m ≡ 3 * m + 0 = omega arith in
@@ -103,7 +103,7 @@ none-left rows table e =
 -- A node is counted, then those below it.
 one-more : (rows : List ℕ) (k : ℕ) (before after : List ℕ) → 3 * (k + 1) ≤ length before
     → Counted rows k (stored before k (counts-by rows before k)) after → Counted rows (k + 1) before after
-unfolding counts-of
+unfolding box-counts
 one-more rows k before after room j =
     let c = counts-by rows before k in
     record {
@@ -111,7 +111,7 @@ one-more rows k before after room j =
       room = room;
       kept = λ i h. j .kept i (omega arith) ∙ stored-kept before k c i h;
       known = λ count known. j .known count
-          (one-known rows count 3 counts-of k before (stored before k c) known (stored-kept before k c)
+          (one-known rows count 3 box-counts k before (stored before k c) known (stored-kept before k c)
           (λ i at E n. subst (λ d. Stands (stored before k c) (3 * k) (d .entries ∷ (d .internals ∷ (d .exits ∷ [])))) (counts-right rows count before k known E n)
           (stored-stands before k c (omega arith))));
     }
@@ -126,8 +126,8 @@ turn rows before {between} {after} {k} {c} room e s j =
 pub moved : {rows before after : List ℕ} {k m : ℕ} → k ≡ m → Counted rows k before after → Counted rows m before after
 moved {rows} {before} {after} e j = subst (λ n. Counted rows n before after) e j
 
-three : (E : Expr) → length (counts-of E) ≡ 3
-unfolding counts-of
+three : (E : Expr) → length (box-counts E) ≡ 3
+unfolding box-counts
 three E = refl
 
 -- After the last node the table begins with the counts of every node.
@@ -135,8 +135,8 @@ pub all-counted : {rows before after : List ℕ} {count : ℕ} → Counted rows 
     → after ≡ node-counts E ++ drop (3 * count) before
 unfolding node-counts
 all-counted {rows} {before} {after} {count} j E t =
-    let known = j .known count (none-known rows count 3 counts-of before) in
-    let f = filled rows count 3 counts-of three after known E (table-node t) in
+    let known = j .known count (none-known rows count 3 box-counts before) in
+    let f = filled rows count 3 box-counts three after known E (table-node t) in
     let p : length (node-counts E) ≡ 3 * count = f .long ∙ ap (λ n. 3 * n) (sym (t .nodes)) in
     stands-whole after before (node-counts E) (j .long) (omega (arith, j .room)) (f .stands) (λ i h. j .kept i (omega arith))
     ∙ ap (λ n. node-counts E ++ drop n before) p

@@ -1,5 +1,5 @@
 -- 01, "Known nets", those with P: from plan bytes to the answer and the three tables. Each row is what the paper says; the definitions compute it.
--- The lent tables hold 9s beforehand, so a row also shows that nothing behind the net's part is written.
+-- The full-room tables hold 9s beforehand, so a row also shows that nothing behind the net's part is written.
 use Prim.Native.Nat.{ℕ, _-_}
 use mathlib.Core.Path.{_≡_, refl}
 use mathlib.Core.List.{List, [], _∷_, _++_, map}
@@ -8,8 +8,8 @@ use Rattle.field.specs.Answer.{good, refused}
 use Rattle.net.specs.Tables.{none}
 use Rattle.boxes.specs.Compile.{Lent, Counts, Compiled, compile}
 
-abbrev pub lent : Lent
-lent = record { kinds = replicate 8 9; rows = replicate 36 9; arcs = replicate 16 9 }
+abbrev pub full-room : Lent
+full-room = record { kinds = replicate 8 9; rows = replicate 36 9; arcs = replicate 16 9 }
 
 -- a table of so many 9s with a part written at its front
 abbrev written : ℕ → List ℕ → List ℕ
@@ -23,7 +23,7 @@ abbrev counts : ℕ → ℕ → ℕ → ℕ → ℕ → Counts
 counts p t a e i = record { places = p; transitions = t; arcs = a; entries = e; internals = i }
 
 abbrev refusal : ℕ → ℕ → Compiled
-refusal n c = record { answer = refused n c; tables = lent }
+refusal n c = record { answer = refused n c; tables = full-room }
 
 pub record Known : Type 0 where
   pub plan : List ℕ
@@ -95,6 +95,6 @@ known =
     ∷ record { plan = 0x01 ∷ 0x00 ∷ 0x01 ∷ 0x80 ∷ []; compiled = refusal 6 0 }
     ∷ []
 
-pub known-nets : map (λ (k : Known). compile (k .plan) lent) known ≡ map (λ (k : Known). k .compiled) known
+pub known-nets : map (λ (k : Known). compile (k .plan) full-room) known ≡ map (λ (k : Known). k .compiled) known
 unfolding compile
 known-nets = refl

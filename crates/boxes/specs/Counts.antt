@@ -43,9 +43,9 @@ internal-count (loop E F G) =
     cut place-limit (internal-count E + (internal-count F + (internal-count G + exit-count E * exit-count F * (entry-count F * entry-count G))))
 internal-count (scope a E) = internal-count E
 
-unfoldable pub place-count : Expr → ℕ
+unfoldable pub places-cut-off : Expr → ℕ
 unfolding entry-count internal-count exit-count
-place-count E = cut place-limit (entry-count E + (internal-count E + exit-count E))
+places-cut-off E = cut place-limit (entry-count E + (internal-count E + exit-count E))
 
 unfoldable pub transition-count : Expr → ℕ
 unfolding transitions
@@ -62,8 +62,8 @@ arc-count E = arcs-up-to arc-limit (net-of E .transitions)
 
 -- "then 11, 12, 13": each is asked only where the one before is not given, so the net is written down only where its places are few
 unfoldable pub check-size : Expr → Answer (Unit {0})
-unfolding place-count transition-count arc-count
+unfolding places-cut-off transition-count arc-count
 check-size E = do
-  check (leb (place-count E) place-limit) too-many-places 0
+  check (leb (places-cut-off E) place-limit) too-many-places 0
   check (leb (transition-count E) transition-limit) too-many-transitions 0
   check (leb (arc-count E) arc-limit) too-many-arcs 0

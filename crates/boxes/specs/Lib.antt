@@ -1,5 +1,3 @@
 pub mod Counts
 pub mod Compile
-pub mod Counted
-pub mod NodeCounts
-pub mod ArcCounts
+pub mod inner

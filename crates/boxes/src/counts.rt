@@ -16,10 +16,10 @@ ghost use Prim.Native.Nat.{_+_, _*_, _<_, _≤_};
 ghost use lib.ListN.{length, drop};
 ghost use Rattle.field.specs.Limits.{place-limit};
 ghost use Rattle.algebra.specs.Expr.{Expr};
-ghost use Rattle.plan.specs.Table.{Table};
+ghost use Rattle.plan.specs.inner.Table.{Table};
 ghost use Rattle.boxes.specs.Counts.{cut};
-ghost use Rattle.boxes.specs.NodeCounts.{node-counts};
-ghost use Rattle.boxes.specs.Counted.{Small, counts-at, sequence-counts, choice-counts, parallel-counts, loop-counts, counts-by, stored, CountsDown};
+ghost use Rattle.boxes.specs.inner.NodeCounts.{node-counts};
+ghost use Rattle.boxes.specs.inner.Counted.{Small, counts-at, sequence-counts, choice-counts, parallel-counts, loop-counts, counts-by, stored, CountsDown};
 
 // How many places of each kind a box has.
 pub struct Counts {

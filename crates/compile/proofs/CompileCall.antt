@@ -20,8 +20,9 @@ use Rattle.net.specs.Tables.{kinds-of, rows-from, rows-of, arcs-of, tables-of}
 use Rattle.boxes.specs.Compile.{Counts, counts-of, accept, Lent, Compiled, compiled, check-lent, compile-net, compile, over}
 use Rattle.boxes.proofs.CountsCutOff.{size-accepted, net-places}
 use Rattle.boxes.proofs.TablesAreANet.{accepted}
-use Rattle.tables.specs.Rows.{Whole, Asked}
-use Rattle.compile.specs.Says.{counts, judged-says, net-counts, Drawn, Leaves}
+use Rattle.tables.specs.inner.Rows.{Whole, Asked}
+use Rattle.compile.specs.Says.{counts}
+use Rattle.compile.specs.inner.Judging.{judged-says, net-counts, Drawn, Leaves}
 use Rattle.compile.specs.declared.judging.Judged.{Judged}
 use Rattle.compile.specs.declared.judging.Judged.the-variants as judged
 

@@ -25,31 +25,32 @@ use Rattle.algebra.proofs.Lengths.{entries-of, internals-of, exits-of, entries-
 use Rattle.net.specs.Tables.{none, second, item-of, arcs-of, tables-of}
 use Rattle.plan.specs.Reading.{read-plan}
 use Rattle.plan.specs.Loops.{check-loops}
-use Rattle.plan.specs.Nodes.{node-count, node-table}
+use Rattle.plan.specs.inner.Nodes.{node-count, node-table}
 use Rattle.plan.proofs.Exact.{read-within, read-length}
 use Rattle.plan.proofs.Within.{limits-within}
 use Rattle.plan.proofs.ReadBack.{encode-length}
 use Rattle.plan.proofs.Stands.{stands-take}
 use Rattle.plan.proofs.Loops.{loops-exclusive}
 use Rattle.plan.proofs.Scopes.{named-scopes}
-use Rattle.boxes.specs.Counts.{place-count, transition-count}
-use Rattle.boxes.specs.NodeCounts.{node-counts}
+use Rattle.boxes.specs.Counts.{places-cut-off, transition-count}
+use Rattle.boxes.specs.inner.NodeCounts.{node-counts}
 use Rattle.boxes.specs.Compile.{Counts, counts-of, accept}
 use Rattle.boxes.proofs.CountsCutOff.{place-count-is, arc-count-is}
-use Rattle.transitions.specs.Numbers.{flat}
-use Rattle.transitions.specs.Listing.{Part}
+use Rattle.transitions.specs.inner.Numbers.{flat}
+use Rattle.transitions.specs.inner.Listing.{Part}
 use Rattle.transitions.proofs.FlatNumbers.{flat-length, label-at, first-at, second-at, part-behind}
 use Rattle.arcs.proofs.Transitions.{item-of-one, item-of-two}
 use Rattle.arcs.proofs.Sizes.{counts-here}
 use Rattle.arcs.proofs.AskedMet.{table-length, counted-in-front}
-use Rattle.spread.specs.Spread.{Of, Told}
-use Rattle.tables.specs.Rows.{listed-from, told-arcs, Whole}
+use Rattle.spread.specs.inner.Spread.{Of, Told}
+use Rattle.tables.specs.inner.Rows.{listed-from, told-arcs, Whole}
 use Rattle.tables.proofs.Counted.{arcs-told}
-use Rattle.boxes.specs.ArcCounts.{listed-arcs}
-use Rattle.compile.specs.Judged.{check-places, check-transitions, check-arcs, judge, judged}
-use Rattle.compile.specs.Ready.{ready-sizes, ready, FrontSays, TablesAre}
-use Rattle.compile.specs.Says as says
-use Rattle.compile.specs.Says.{counts, counted, judged-says, net-counts, Drawn}
+use Rattle.boxes.specs.inner.ArcCounts.{listed-arcs}
+use Rattle.compile.specs.inner.Judged.{check-places, check-transitions, check-arcs, judge, judged}
+use Rattle.compile.specs.inner.Ready.{ready-sizes, ready, FrontSays, TablesAre}
+use Rattle.compile.specs.inner.Judging as judging
+use Rattle.compile.specs.Says.{counts}
+use Rattle.compile.specs.inner.Judging.{counted, judged-says, net-counts, Drawn}
 use Rattle.compile.specs.declared.judging.Judged.{Judged}
 use Rattle.compile.specs.declared.judging.Judged.the-variants as judgement
 use Rattle.compile.specs.declared.front.Judgement.{Judgement}
@@ -116,7 +117,7 @@ check-passed false n c e = good-not-refused _ _ n c e refl
 few-places : (E : Expr) {u : Unit {0}} → check-places E ≡ good u → length (places 0 E) ≤ place-limit
 unfolding check-places
 few-places E e =
-    let b = check-passed (leb (place-count E) place-limit) too-many-places 0 e in
+    let b = check-passed (leb (places-cut-off E) place-limit) too-many-places 0 e in
     leb-true (length (places 0 E)) place-limit (sym (leb-cut place-limit (length (places 0 E))) ∙ sym (ap (λ n. leb n place-limit) (place-count-is 0 E)) ∙ b)
 
 few-transitions : (E : Expr) {u : Unit {0}} → check-transitions E ≡ good u → length (transitions 0 E) ≤ transition-limit
@@ -216,13 +217,13 @@ module _ (plan : List ℕ) (nodes many : ℕ) (table counts list : List ℕ) (w 
         let l = arcs-are e in
         λ k. record { places = a k + (b k + c k); transitions = how-many k; arcs = l k; entries = a k; internals = b k }
 
-    pub fine-says : {arcs : ℕ} → arcs ≡ listed-arcs (told-arcs index) (listed-from list 0 many) → arcs ≤ arc-limit → (r : Judged) → says.Told counts many arcs r → judged-says r ≡ net-counts plan
+    pub fine-says : {arcs : ℕ} → arcs ≡ listed-arcs (told-arcs index) (listed-from list 0 many) → arcs ≤ arc-limit → (r : Judged) → judging.Told counts many arcs r → judged-says r ≡ net-counts plan
     unfolding net-counts
     fine-says e h (judgement.Refused n c) t = absurd t
     fine-says e h (judgement.Fine ps n count es is) t =
         ap good (t ∙ counts-same e) ∙ sym (ap (λ a. a >>= λ F. good (counts-of (net-of F))) (accept-by (arcs-few E (omega (arith, arcs-are e)))))
 
-    pub fine-drawn : {arcs : ℕ} → arcs ≡ listed-arcs (told-arcs index) (listed-from list 0 many) → arcs ≤ arc-limit → (r : Judged) → says.Told counts many arcs r → (F : Expr) → accept plan ≡ good F → Drawn r lists index list F
+    pub fine-drawn : {arcs : ℕ} → arcs ≡ listed-arcs (told-arcs index) (listed-from list 0 many) → arcs ≤ arc-limit → (r : Judged) → judging.Told counts many arcs r → (F : Expr) → accept plan ≡ good F → Drawn r lists index list F
     fine-drawn e h (judgement.Refused n c) t F a = tt
     fine-drawn e h (judgement.Fine ps n count es is) t F a =
         let same : E ≡ F = good-same E F (sym (accept-by (arcs-few E (omega (arith, arcs-are e)))) ∙ a) in

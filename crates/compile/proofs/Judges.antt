@@ -18,23 +18,23 @@ use Rattle.algebra.specs.Transitions.{transitions}
 use Rattle.plan.specs.Reading.{read-plan}
 use Rattle.plan.specs.Loops.{bytes, check-loops}
 use Rattle.plan.specs.Bytes.{named}
-use Rattle.plan.specs.Nodes.{node-count, node-table, sizes-of}
-use Rattle.plan.specs.Says.{says, read-sizes, RowsAre}
+use Rattle.plan.specs.inner.Nodes.{node-count, node-table, sizes-of}
+use Rattle.plan.specs.inner.Says.{says, read-sizes, RowsAre}
 use Rattle.plan.specs.declared.PlanRead.{PlanRead}
 use Rattle.plan.specs.declared.PlanRead.the-variants.{Refused, Read}
-use Rattle.plan.specs.Table.{Table, values}
+use Rattle.plan.specs.inner.Table.{Table, values}
 use Rattle.plan.proofs.NodeTable.{rows-length}
 use Rattle.plan.proofs.Exact.{read-within, read-length}
 use Rattle.plan.proofs.Within.{limits-within}
 use Rattle.plan.proofs.ReadBack.{encode-length}
-use Rattle.boxes.specs.Counts.{cut, entry-count, internal-count, exit-count, place-count, check-size}
-use Rattle.boxes.specs.NodeCounts.{counts-of, node-counts}
+use Rattle.boxes.specs.Counts.{cut, entry-count, internal-count, exit-count, places-cut-off, check-size}
+use Rattle.boxes.specs.inner.NodeCounts.{box-counts, node-counts}
 use Rattle.boxes.specs.Compile.{accept}
-use Rattle.transitions.specs.Numbers.{flat, Fits, ListIs}
+use Rattle.transitions.specs.inner.Numbers.{flat, Fits, ListIs}
 use Rattle.transitions.specs.declared.Listed.{Listed}
 use Rattle.transitions.specs.declared.Listed.the-variants.{Many, TooMany}
-use Rattle.compile.specs.Judged.{check-places, check-transitions, check-arcs, judge, judged}
-use Rattle.compile.specs.Ready.{ready-sizes, ready, FrontSays, ListIsOf, CountsAreOf, TableIsOf, TablesAre, Few, Fine}
+use Rattle.compile.specs.inner.Judged.{check-places, check-transitions, check-arcs, judge, judged}
+use Rattle.compile.specs.inner.Ready.{ready-sizes, ready, FrontSays, ListIsOf, CountsAreOf, TableIsOf, TablesAre, Few, Fine}
 use Rattle.compile.specs.declared.front.Judgement.{Judgement}
 use Rattle.compile.specs.declared.front.Judgement.the-variants as judgement
 
@@ -92,7 +92,7 @@ module _ (E : Expr) (list′ : List ℕ) where
 
 -- The counts of the whole plan stand first.
 pub counts-first : (E : Expr) (l : List ℕ) → (getD (node-counts E ++ l) 0 0 ≡ entry-count E) × (getD (node-counts E ++ l) 1 0 ≡ internal-count E) × (getD (node-counts E ++ l) 2 0 ≡ exit-count E)
-unfolding node-counts values counts-of
+unfolding node-counts values box-counts
 counts-first (action a) l = (refl, refl, refl)
 counts-first (sequence E F) l = (refl, refl, refl)
 counts-first (choice E F) l = (refl, refl, refl)
@@ -105,7 +105,7 @@ abbrev pub fits : List ℕ → Bool
 fits counts = leb (getD counts 0 0 + (getD counts 1 0 + getD counts 2 0)) place-limit
 
 places-by : (E : Expr) (l : List ℕ) {counts : List ℕ} → counts ≡ node-counts E ++ l → check-places E ≡ check (fits counts) too-many-places 0
-unfolding check-places place-count
+unfolding check-places places-cut-off
 places-by E l {counts} e =
     let (a, b, d) = counts-first E l in
     let s : entry-count E + (internal-count E + exit-count E) ≡ getD counts 0 0 + (getD counts 1 0 + getD counts 2 0) =

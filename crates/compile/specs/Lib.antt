@@ -1,3 +1,2 @@
-pub mod Judged
-pub mod Ready
 pub mod Says
+pub mod inner

@@ -15,10 +15,10 @@ ghost use lib.ListN.{length, getD};
 ghost use Rattle.field.specs.Limits.{plan-limit, place-limit};
 ghost use Rattle.algebra.specs.Expr.{Expr, actions};
 ghost use Rattle.plan.specs.Bytes.{named};
-ghost use Rattle.plan.specs.Table.{Table};
-ghost use Rattle.transitions.specs.Numbers.{most};
-ghost use Rattle.compile.specs.Judged.{judged};
-ghost use Rattle.compile.specs.Ready.{FrontSays, ready, TablesAre, Few, Fine};
+ghost use Rattle.plan.specs.inner.Table.{Table};
+ghost use Rattle.transitions.specs.inner.Numbers.{most};
+ghost use Rattle.compile.specs.inner.Judged.{judged};
+ghost use Rattle.compile.specs.inner.Ready.{FrontSays, ready, TablesAre, Few, Fine};
 
 // The first refusal with what it carries; or how many nodes and transitions the plan has.
 pub enum Judgement {

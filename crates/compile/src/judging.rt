@@ -12,8 +12,8 @@ ghost use Rattle.field.specs.Limits.{plan-limit};
 ghost use Rattle.field.specs.Answer.{good};
 ghost use Rattle.algebra.specs.Expr.{Expr};
 ghost use Rattle.boxes.specs.Compile.{accept};
-ghost use Rattle.transitions.specs.Numbers.{most};
-ghost use Rattle.compile.specs.Says.{judged-says, net-counts, counted, Told, Drawn};
+ghost use Rattle.transitions.specs.inner.Numbers.{most};
+ghost use Rattle.compile.specs.inner.Judging.{judged-says, net-counts, counted, Told, Drawn};
 
 // The first refusal with what it carries; or the counts of the net.
 pub enum Judged {

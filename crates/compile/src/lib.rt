@@ -1,4 +1,4 @@
-// 01, "Net tables": the compile call, from the plan to the three lent tables. It judges first and then writes: each row and each arc once,
+// 01, "Net tables": the compile call, from the plan to the three three-lent tables. It judges first and then writes: each row and each arc once,
 // where it belongs.
 pub mod front;
 pub mod judging;
@@ -17,8 +17,9 @@ ghost use lib.Dec.{leb};
 ghost use lib.ListN.{length};
 ghost use Rattle.boxes.specs.Compile as paper;
 ghost use Rattle.field.specs.Limits.{plan-limit};
-ghost use Rattle.transitions.specs.Numbers.{most};
-ghost use Rattle.compile.specs.Says.{compiling-says, Leaves, lent};
+ghost use Rattle.transitions.specs.inner.Numbers.{most};
+ghost use Rattle.compile.specs.Says.{compiling-says, three-lent};
+ghost use Rattle.compile.specs.inner.Judging.{Leaves};
 
 // Plans of at most so many bytes get work room of their size, so that a small plan does not pay for the limits.
 pub const SMALL_PLAN: usize = 512;
@@ -47,7 +48,7 @@ pub enum Compiling {
     },
 }
 
-// 14: each lent table holds what is to be written.
+// 14: each three-lent table holds what is to be written.
 fn tables_reach(
     kinds: &[u8],
     rows: &[u16],
@@ -62,7 +63,7 @@ fn tables_reach(
     (places <= kinds.len()) & ((6 * transitions <= rows.len()) & (arc_count <= arcs.len()))
 }
 
-// The call, in room that is lent too. The node table is no longer asked for when the arcs are written, and so is room to merge in.
+// The call, in room that is three-lent too. The node table is no longer asked for when the arcs are written, and so is room to merge in.
 fn compile_in(
     plan: &[u8],
     table: &mut [u16],
@@ -76,7 +77,7 @@ fn compile_in(
 ) -> Compiling
     requires { ⌜ (length (now plan) ≤ plan-limit → (2 * length (now plan) ≤ length (now table)) × (length (now plan) ≤ length (now counts)) × (4 * length (now plan) ≤ length (now lists))) ⌝ }
     requires { ⌜ (768 ≤ length (now index)) × (3 * most ≤ length (now list)) ⌝ }
-    ensures { λ r. ⌜ Leaves (now (plan .entry)) (lent (now (kinds .entry)) (now (rows .entry)) (now (arcs .entry))) (compiling-says r) (now (kinds .exit)) (now (rows .exit)) (now (arcs .exit)) ⌝ }
+    ensures { λ r. ⌜ Leaves (now (plan .entry)) (three-lent (now (kinds .entry)) (now (rows .entry)) (now (arcs .entry))) (compiling-says r) (now (kinds .exit)) (now (rows .exit)) (now (arcs .exit)) ⌝ }
 {
     match judge(plan, table, counts, lists, index, list) {
         Judged::Refused(number, carried) => Compiling::Refused(number, carried),
@@ -105,7 +106,7 @@ fn compile_in(
 
 // In room for any plan.
 fn compile_large(plan: &[u8], kinds: &mut [u8], rows: &mut [u16], arcs: &mut [u16]) -> Compiling
-    ensures { λ r. ⌜ Leaves (now (plan .entry)) (lent (now (kinds .entry)) (now (rows .entry)) (now (arcs .entry))) (compiling-says r) (now (kinds .exit)) (now (rows .exit)) (now (arcs .exit)) ⌝ }
+    ensures { λ r. ⌜ Leaves (now (plan .entry)) (three-lent (now (kinds .entry)) (now (rows .entry)) (now (arcs .entry))) (compiling-says r) (now (kinds .exit)) (now (rows .exit)) (now (arcs .exit)) ⌝ }
 {
     let mut table = [0u16; ROWS];
     let mut counts = [0u16; COUNTS];
@@ -128,7 +129,7 @@ fn compile_large(plan: &[u8], kinds: &mut [u8], rows: &mut [u16], arcs: &mut [u1
 // In room for a small plan.
 fn compile_small(plan: &[u8], kinds: &mut [u8], rows: &mut [u16], arcs: &mut [u16]) -> Compiling
     requires { ⌜ length (now plan) ≤ 512 ⌝ }
-    ensures { λ r. ⌜ Leaves (now (plan .entry)) (lent (now (kinds .entry)) (now (rows .entry)) (now (arcs .entry))) (compiling-says r) (now (kinds .exit)) (now (rows .exit)) (now (arcs .exit)) ⌝ }
+    ensures { λ r. ⌜ Leaves (now (plan .entry)) (three-lent (now (kinds .entry)) (now (rows .entry)) (now (arcs .entry))) (compiling-says r) (now (kinds .exit)) (now (rows .exit)) (now (arcs .exit)) ⌝ }
 {
     let mut table = [0u16; SMALL_ROWS];
     let mut counts = [0u16; SMALL_PLAN];
@@ -148,13 +149,13 @@ fn compile_small(plan: &[u8], kinds: &mut [u8], rows: &mut [u16], arcs: &mut [u1
     )
 }
 
-// The three tables of the plan's net. Nothing lent is written before all is known, and on refusal nothing is; what lies behind the net's part
+// The three tables of the plan's net. Nothing three-lent is written before all is known, and on refusal nothing is; what lies behind the net's part
 // is never touched.
 pub fn compile(plan: &[u8], kinds: &mut [u8], rows: &mut [u16], arcs: &mut [u16]) -> Compiling
-    ensures answer { λ r. ⌜ compiling-says r ≡ paper.compile (now (plan .entry)) (lent (now (kinds .entry)) (now (rows .entry)) (now (arcs .entry))) .answer ⌝ }
-    ensures kinds { λ r. ⌜ now (kinds .exit) ≡ paper.compile (now (plan .entry)) (lent (now (kinds .entry)) (now (rows .entry)) (now (arcs .entry))) .tables .kinds ⌝ }
-    ensures rows { λ r. ⌜ now (rows .exit) ≡ paper.compile (now (plan .entry)) (lent (now (kinds .entry)) (now (rows .entry)) (now (arcs .entry))) .tables .rows ⌝ }
-    ensures arcs { λ r. ⌜ now (arcs .exit) ≡ paper.compile (now (plan .entry)) (lent (now (kinds .entry)) (now (rows .entry)) (now (arcs .entry))) .tables .arcs ⌝ }
+    ensures answer { λ r. ⌜ compiling-says r ≡ paper.compile (now (plan .entry)) (three-lent (now (kinds .entry)) (now (rows .entry)) (now (arcs .entry))) .answer ⌝ }
+    ensures kinds { λ r. ⌜ now (kinds .exit) ≡ paper.compile (now (plan .entry)) (three-lent (now (kinds .entry)) (now (rows .entry)) (now (arcs .entry))) .tables .kinds ⌝ }
+    ensures rows { λ r. ⌜ now (rows .exit) ≡ paper.compile (now (plan .entry)) (three-lent (now (kinds .entry)) (now (rows .entry)) (now (arcs .entry))) .tables .rows ⌝ }
+    ensures arcs { λ r. ⌜ now (arcs .exit) ≡ paper.compile (now (plan .entry)) (three-lent (now (kinds .entry)) (now (rows .entry)) (now (arcs .entry))) .tables .arcs ⌝ }
 {
     if plan.len() <= SMALL_PLAN {
         return compile_small(plan, kinds, rows, arcs);

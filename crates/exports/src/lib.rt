@@ -9,7 +9,7 @@ ghost use Rattle.net.specs.Lent.{lent};
 ghost use Rattle.boxes.specs.Compile;
 ghost use Rattle.step.specs.Fire;
 ghost use Rattle.step.specs.Enabled;
-ghost use Rattle.compile.specs.Says.{lent as lent-tables};
+ghost use Rattle.compile.specs.Says.{three-lent as lent-tables};
 ghost use Rattle.replay.specs.Replay;
 ghost use Rattle.exports.specs.Told.{told, compile-tells, fire-tells, enabled-tells, replay-tells};
 use compile::Compiling;

@@ -2,3 +2,4 @@ pub mod Answers
 pub mod Tests
 pub mod Fields
 pub mod Alls
+pub mod OneResult

@@ -13,7 +13,7 @@ use lib.ListN.{length, getD, getD-replicate, set, replicate}
 use lib.Seq.{getD-set-same, getD-set-other}
 use lib.Dec.{eqb}
 use Rattle.net.specs.Tables.{none}
-use Rattle.net.specs.Chains.{in-row, keep, with-first, Walk, Chains, Kept}
+use Rattle.net.specs.inner.Chains.{in-row, keep, with-first, Walk, Chains, Kept}
 
 -- The chains of the transitions from t on.
 abbrev pub ChainsFrom : List ℕ → ℕ → ℕ → List ℕ → List ℕ → Type 0

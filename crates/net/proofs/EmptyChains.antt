@@ -7,8 +7,8 @@ use mathlib.Core.Path.{_≡_, refl, sym, ap, ap₂, subst, _∙_}
 use mathlib.Core.Bool.{Bool, true, false, _&&_}
 use mathlib.Core.List.{List, [], map}
 use borrow.Author.Tests.{ne-eqb}
-use Rattle.net.specs.Chains.{in-row, keep, with-first}
-use Rattle.net.specs.Passes.{second-or-256, differ, seconds-differ, each, FirstsBelow}
+use Rattle.net.specs.inner.Chains.{in-row, keep, with-first}
+use Rattle.net.specs.inner.Passes.{second-or-256, differ, seconds-differ, each, FirstsBelow}
 
 none-with : (rows : List ℕ) (i t n : ℕ) → ((k : ℕ) → k < t + n → in-row rows k 1 ≡ i → ⊥) → with-first rows i t n ≡ []
 unfolding with-first

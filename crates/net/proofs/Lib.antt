@@ -5,6 +5,7 @@ pub mod Turns
 pub mod RowTurns
 pub mod ChainTurns
 pub mod Walks
+pub mod Determined
 pub mod Stamps
 pub mod RowsPass
 pub mod PairsPass
@@ -12,3 +13,4 @@ pub mod NetTests
 pub mod EmptyChains
 pub mod Neighbours
 pub mod RisingChains
+pub mod CountedPart

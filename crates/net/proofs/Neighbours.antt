@@ -13,7 +13,7 @@ use lib.Dec.{T, eqb, leb, ltb, leb→le, le→leb, ltb→lt, lt→ltb}
 use Rattle.field.proofs.Tests.{and-parts, T-true}
 use Rattle.field.proofs.Alls.{and-assoc}
 use Rattle.net.specs.Check.{rising, kinds-after, kinds-ordered}
-use Rattle.net.specs.Passes.{neighbours, list-passes}
+use Rattle.net.specs.inner.Passes.{neighbours, list-passes}
 use Rattle.net.proofs.Turns.{and-yes}
 
 -- the last number of a list that begins with x

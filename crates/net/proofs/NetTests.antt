@@ -10,7 +10,7 @@ use Rattle.field.specs.Lists.{all}
 use Rattle.field.proofs.Tests.{and-parts, true-T, T-true}
 use Rattle.net.specs.Tables.{Tables, transitions-in}
 use Rattle.net.specs.Check.{counts-fit, tables-reach, kinds-ordered, lists-rise, starts-meet, codes-fit, pairs-differ, is-net}
-use Rattle.net.specs.Passes.{rows-pass, pairs-pass}
+use Rattle.net.specs.inner.Passes.{rows-pass, pairs-pass}
 use Rattle.net.proofs.RowsPass.{rows-are}
 use Rattle.net.proofs.PairsPass.{pairs-are}
 

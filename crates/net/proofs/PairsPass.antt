@@ -15,8 +15,8 @@ use Rattle.algebra.specs.Item.{one, two, same-item}
 use Rattle.algebra.specs.Net.{Transition}
 use Rattle.net.specs.Tables.{Tables, number, none, item-of, transition-at, transitions-from}
 use Rattle.net.specs.Check.{codes-fit, pairs-differ}
-use Rattle.net.specs.Chains.{keep, with-first}
-use Rattle.net.specs.Passes.{codes-pass, second-or-256, differ, seconds-differ, each, pairs-pass}
+use Rattle.net.specs.inner.Chains.{keep, with-first}
+use Rattle.net.specs.inner.Passes.{codes-pass, second-or-256, differ, seconds-differ, each, pairs-pass}
 use Rattle.net.proofs.RowsPass.{codes-are}
 
 -- A second number that may stand in a row.

@@ -13,8 +13,8 @@ use lib.Dec.{T, eqb, ltb, ltb→lt, lt→ltb}
 use Rattle.field.specs.Lists.{all}
 use Rattle.field.proofs.Tests.{and-parts, parts-and, T-true, true-T}
 use Rattle.net.specs.Tables.{none}
-use Rattle.net.specs.Chains.{in-row, keep, with-first, Walk}
-use Rattle.net.specs.Passes.{neighbours, second-or-256, differ, seconds-differ, pairs-pass}
+use Rattle.net.specs.inner.Chains.{in-row, keep, with-first, Walk}
+use Rattle.net.specs.inner.Passes.{neighbours, second-or-256, differ, seconds-differ, pairs-pass}
 use Rattle.net.proofs.ChainTurns.{ChainsFrom, with-first-end, with-first-turn}
 use Rattle.net.proofs.Walks.{ahead, settle, walk-goes-on, walk-ends}
 use Rattle.net.proofs.EmptyChains.{each-all}

@@ -9,8 +9,8 @@ use native.Mathlib.Omega.{arith}
 use lib.ListN.{take, drop}
 use lib.Dec.{eqb, leb, leb→le}
 use Rattle.field.proofs.Tests.{and-parts, T-true, true-T}
-use Rattle.net.specs.Chains.{in-row}
-use Rattle.net.specs.Passes.{codes-pass, list-passes, row-end, row-passes, rows-pass}
+use Rattle.net.specs.inner.Chains.{in-row}
+use Rattle.net.specs.inner.Passes.{codes-pass, list-passes, row-end, row-passes, rows-pass}
 
 -- What the test before a look at the lists says of where they end.
 pub looked-within : (third start end arc-count : ℕ) → (eqb third start && leb end arc-count) ≡ true → end ≤ arc-count

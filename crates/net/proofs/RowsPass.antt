@@ -13,13 +13,13 @@ use Rattle.field.proofs.Alls.{and-assoc}
 use Rattle.algebra.specs.Item.{one, two}
 use Rattle.net.specs.Tables.{Tables, number, none, item-of, transition-at, transitions-from}
 use Rattle.net.specs.Check.{lists-rise, starts-meet, actions-fit, codes-fit}
-use Rattle.net.specs.Passes.{codes-pass, list-passes, row-end, row-passes, rows-pass}
+use Rattle.net.specs.inner.Passes.{codes-pass, list-passes, row-end, row-passes, rows-pass}
 
 and-true : (a : Bool) → a ≡ (a && true)
 and-true true = refl
 and-true false = refl
 
-and-false : (a : Bool) → false ≡ (a && false)
+pub and-false : (a : Bool) → false ≡ (a && false)
 and-false true = refl
 and-false false = refl
 
@@ -35,7 +35,7 @@ actions-are i j = go (leb i 255) refl (leb j 255) refl (eqb j none)
     go false p b q false = sym (ap (λ (a : Bool). a && leb j 255) p)
 
 -- Starts that meet do not lie behind the arc count, since they only grow.
-starts-within : (tables : Tables) (start t n : ℕ) → T (starts-meet tables start t n) → start ≤ tables .arc-count
+pub starts-within : (tables : Tables) (start t n : ℕ) → T (starts-meet tables start t n) → start ≤ tables .arc-count
 unfolding starts-meet
 starts-within tables start t zero h = omega (arith, eqb→eq start (tables .arc-count) h)
 starts-within tables start t (suc n) h =

@@ -12,8 +12,8 @@ use lib.Seq.{getD-set-same, getD-set-other}
 use lib.Dec.{eqb}
 use Rattle.field.specs.Lists.{all}
 use Rattle.net.specs.Tables.{none}
-use Rattle.net.specs.Chains.{Chains}
-use Rattle.net.specs.Passes.{differ, second-or-256, seconds-differ, each}
+use Rattle.net.specs.inner.Chains.{Chains}
+use Rattle.net.specs.inner.Passes.{differ, second-or-256, seconds-differ, each}
 use Rattle.net.proofs.Walks.{ahead, Stands, walk-starts, walk-goes-on, walk-ends}
 
 -- A number that does not have the stamp.

@@ -9,7 +9,7 @@ use native.Mathlib.Omega.{arith}
 use lib.ListN.{getD}
 use lib.Dec.{eqb}
 use Rattle.net.specs.Tables.{none}
-use Rattle.net.specs.Chains.{in-row, keep, with-first, Walk, Chains}
+use Rattle.net.specs.inner.Chains.{in-row, keep, with-first, Walk, Chains}
 use Rattle.net.proofs.ChainTurns.{with-first-end, with-first-turn}
 
 -- What lies ahead of a walk that stands at a number, among n transitions.

@@ -2,5 +2,4 @@ pub mod Tables
 pub mod Check
 pub mod Marking
 pub mod Lent
-pub mod Chains
-pub mod Passes
+pub mod inner

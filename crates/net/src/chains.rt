@@ -4,8 +4,8 @@ ghost use mathlib.Core.Path.{_≡_};
 ghost use mathlib.Core.Bool.{true};
 ghost use Prim.Native.Nat.{_+_, _*_, _<_, _≤_};
 ghost use lib.ListN.{length, replicate};
-ghost use Rattle.net.specs.Chains.{Chains, Kept};
-ghost use Rattle.net.specs.Passes.{second-or-256, pairs-pass};
+ghost use Rattle.net.specs.inner.Chains.{Chains, Kept};
+ghost use Rattle.net.specs.inner.Passes.{second-or-256, pairs-pass};
 use crate::rows;
 
 // A chain for each action, with nothing on it.

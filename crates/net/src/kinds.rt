@@ -4,7 +4,7 @@ ghost use Prim.Native.Nat.{_≤_};
 ghost use lib.ListN.{length, getD, drop};
 ghost use lib.Dec.{leb};
 ghost use Rattle.net.specs.Check.{kinds-ordered};
-ghost use Rattle.net.specs.Passes.{neighbours};
+ghost use Rattle.net.specs.inner.Passes.{neighbours};
 
 // No kind is below the one before it. All are compared, with no way out before the end, so that the machine can compare many at once.
 fn never_fall(kinds: &[u8]) -> bool

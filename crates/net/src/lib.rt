@@ -7,7 +7,7 @@ ghost use lib.ListN.{length, replicate};
 ghost use lib.Dec.{leb};
 ghost use Rattle.field.specs.Limits.{place-limit, transition-limit, arc-limit};
 ghost use Rattle.net.specs.Check.{is-net};
-ghost use Rattle.net.specs.Chains.{Chains};
+ghost use Rattle.net.specs.inner.Chains.{Chains};
 ghost use Rattle.net.specs.Lent.{lent};
 
 mod chains;

@@ -4,8 +4,8 @@
 ghost use mathlib.Core.Path.{_≡_};
 ghost use Prim.Native.Nat.{ℕ, _+_, _*_, _<_, _≤_};
 ghost use lib.ListN.{length, getD, replicate};
-ghost use Rattle.net.specs.Chains.{Chains};
-ghost use Rattle.net.specs.Passes.{second-or-256, seconds-differ, pairs-pass, FirstsBelow};
+ghost use Rattle.net.specs.inner.Chains.{Chains};
+ghost use Rattle.net.specs.inner.Passes.{second-or-256, seconds-differ, pairs-pass, FirstsBelow};
 use crate::chains;
 use crate::rows;
 

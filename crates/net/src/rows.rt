@@ -3,8 +3,8 @@ ghost use mathlib.Core.Path.{_≡_};
 ghost use Prim.Native.Nat.{_+_, _*_, _<_, _≤_};
 ghost use lib.ListN.{length, getD, drop};
 ghost use lib.Dec.{ltb};
-ghost use Rattle.net.specs.Chains.{in-row};
-ghost use Rattle.net.specs.Passes.{neighbours, codes-pass, list-passes, row-passes, rows-pass};
+ghost use Rattle.net.specs.inner.Chains.{in-row};
+ghost use Rattle.net.specs.inner.Passes.{neighbours, codes-pass, list-passes, row-passes, rows-pass};
 
 pub fn wide(x: u16) -> usize
     ensures { λ r. ⌜ (r ≡ x) × (r < 65536) ⌝ }

@@ -17,7 +17,7 @@ use Rattle.field.proofs.Answers.{good-not-refused, check-good, bind-good, good-
 use Rattle.field.proofs.Tests.{and-parts, parts-and, true-T}
 use Rattle.field.proofs.Fields.{field-front, body-of-length}
 use Rattle.algebra.specs.Expr.{Expr, action, actions}
-use Rattle.plan.specs.Reading.{is-label, is-name, Tag, action-tag, sequence-tag, choice-tag, parallel-tag, loop-tag, scope-tag, tag-at, Part, Parts, Reader, read-operands, read-body, read-field, read-plan}
+use Rattle.plan.specs.Reading.{is-label, is-name, Tag, action-tag, sequence-tag, choice-tag, parallel-tag, loop-tag, scope-tag, tag-spelt, Part, Parts, Reader, read-operands, read-body, read-field, read-plan}
 use Rattle.plan.specs.Loops.{bytes}
 use Rattle.plan.specs.Bytes.{encode, depth, named, within-limits}
 use Rattle.plan.proofs.Operators.{Operator, sequence-of, choice-of, parallel-of, loop-of, scope-of, tag-number, tag, number, arity, own, own-named, built, all-encode, all-bytes, all-actions, all-depth, all-named, built-encode, built-bytes, built-actions, built-depth, built-named}
@@ -37,8 +37,8 @@ tag-or-next t k f g r e h = go (eqb t k) refl
     go true i j = eqb-true t k i ∙ e ∙ ap tag-number (good-same f g j)
     go false i j = h j
 
-tag-at-number : (t at : ℕ) (g : Tag) → tag-at t at ≡ good g → t ≡ tag-number g
-unfolding tag-at
+tag-at-number : (t at : ℕ) (g : Tag) → tag-spelt t at ≡ good g → t ≡ tag-number g
+unfolding tag-spelt
 tag-at-number t at g =
     tag-or-next t 1 action-tag g _ refl
     (tag-or-next t 2 sequence-tag g _ refl
@@ -170,7 +170,7 @@ unfolding read-field
 field-says zero s at n p e = good-not-refused (refused too-deep at) p too-deep at e refl
 field-says (suc d) s at n p e =
     let (long, f) = check-good (leb 3 (length s)) field-cut at _ p e in
-    let (g, ge, f′) = bind-good (tag-at (tag-of s) at) _ p f in
+    let (g, ge, f′) = bind-good (tag-spelt (tag-of s) at) _ p f in
     let (room, f″) = check-good (leb (length-of s) (length s - 3)) field-cut at _ p f′ in
     let h : Header s g = record { long = leb-true 3 (length s) long; tagged = tag-at-number (tag-of s) at g ge; room = leb-true (length-of s) (length s - 3) room } in
     body-says d (read-field d) (λ t a m q i. field-says d t a m q i) g s at n p h f″

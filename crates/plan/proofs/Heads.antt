@@ -16,8 +16,8 @@ use Rattle.field.specs.Field.{tag-of, length-of, body-of}
 use Rattle.field.proofs.Tests.{true-T}
 use Rattle.field.proofs.Fields.{body-of-length}
 use Rattle.algebra.specs.Expr.{action}
-use Rattle.plan.specs.Reading.{is-label, is-name, Tag, action-tag, sequence-tag, choice-tag, parallel-tag, loop-tag, scope-tag, tag-at, Part, Reader, read-body}
-use Rattle.plan.specs.Inner.{Inside, field-with, IsOperator, HeadIs}
+use Rattle.plan.specs.Reading.{is-label, is-name, Tag, action-tag, sequence-tag, choice-tag, parallel-tag, loop-tag, scope-tag, tag-spelt, Part, Reader, read-body}
+use Rattle.plan.specs.inner.Fields.{Inside, field-with, IsOperator, HeadIs}
 use Rattle.plan.specs.declared.Head.{Head}
 use Rattle.plan.specs.declared.Head.the-variants as head
 use Rattle.plan.proofs.Operators.{Operator, sequence-of, choice-of, parallel-of, loop-of, scope-of, tag-number, tag, number, arity, own, own-named, built, number-tag}
@@ -112,12 +112,12 @@ module _ (s : List ℕ) (at len n : ℕ) (h : Inside s len) where
 
 -- the ways out of the tests of every field
 
-unknown-zero : (t at : ℕ) → t ≡ 0 → tag-at t at ≡ refused unknown-tag at
-unfolding tag-at
+unknown-zero : (t at : ℕ) → t ≡ 0 → tag-spelt t at ≡ refused unknown-tag at
+unfolding tag-spelt
 unknown-zero t at e = rw e
 
-unknown-high : (t at : ℕ) → 6 < t → tag-at t at ≡ refused unknown-tag at
-unfolding tag-at
+unknown-high : (t at : ℕ) → 6 < t → tag-spelt t at ≡ refused unknown-tag at
+unfolding tag-spelt
 unknown-high t at h =
     let no : (k : ℕ) → k ≤ 6 → eqb t k ≡ false = λ k i. ne-eqb t k (λ e. let z : ⊥ = omega arith in z) in
     rw (no 1 (omega arith), no 2 (omega arith), no 3 (omega arith), no 4 (omega arith), no 5 (omega arith), no 6 (omega arith))
@@ -138,7 +138,7 @@ module _ (s : List ℕ) (at n : ℕ) where
   unfolding field-with
   header-cut h read = rw (lt-leb 3 (length s) h)
 
-  tag-unknown : 3 ≤ length s → tag-at (tag-of s) at ≡ refused unknown-tag at → (read : Reader) → field-with read s at n ≡ refused unknown-tag at
+  tag-unknown : 3 ≤ length s → tag-spelt (tag-of s) at ≡ refused unknown-tag at → (read : Reader) → field-with read s at n ≡ refused unknown-tag at
   unfolding field-with
   tag-unknown h e read = rw (le-leb 3 (length s) h, e)
 
@@ -177,10 +177,10 @@ module _ (s : List ℕ) (at n : ℕ) where
         go false true e f = operands-head choice-of (eqb-true (tag-of s) 3 f) tt refl refl
         go false false e f = operands-head parallel-of (omega (arith, eqb-false (tag-of s) 2 e, eqb-false (tag-of s) 3 f)) tt refl refl
 
-  length-cut-at : (g : Tag) → 3 ≤ length s → tag-at (tag-of s) at ≡ good g → length s - 3 < length-of s → (read : Reader) → field-with read s at n ≡ refused field-cut at
+  length-cut-at : (g : Tag) → 3 ≤ length s → tag-spelt (tag-of s) at ≡ good g → length s - 3 < length-of s → (read : Reader) → field-with read s at n ≡ refused field-cut at
   unfolding field-with
   length-cut-at g h e l read = rw (le-leb 3 (length s) h, e, lt-leb (length-of s) (length s - 3) l)
 
   -- a tag of the table, and a length beyond the enclosing body
   pub length-cut : 3 ≤ length s → (tag-of s ≡ 0 → ⊥) → tag-of s ≤ 6 → length s - 3 < length-of s → (read : Reader) → field-with read s at n ≡ refused field-cut at
-  length-cut h h0 h6 l = let (g, e) = known-tag (tag-of s) h0 h6 in length-cut-at g h (ap (λ (t : ℕ). tag-at t at) e ∙ number-tag g at) l
+  length-cut h h0 h6 l = let (g, e) = known-tag (tag-of s) h0 h6 in length-cut-at g h (ap (λ (t : ℕ). tag-spelt t at) e ∙ number-tag g at) l

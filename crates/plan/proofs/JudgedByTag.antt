@@ -8,8 +8,8 @@ use borrow.Author.Tests.{ne-eqb, le-leb, lt-leb}
 use Rattle.field.specs.Refusals.{body-not-exclusive}
 use Rattle.field.specs.Answer.{good, refused}
 use Rattle.plan.specs.Loops.{no-fault}
-use Rattle.plan.specs.Table.{tag-at, after-at}
-use Rattle.plan.specs.Judged.{offset-says, exclusive-by, fault-by}
+use Rattle.plan.specs.inner.Table.{tag-at, after-at}
+use Rattle.plan.specs.inner.Judged.{offset-says, exclusive-by, fault-by}
 use Rattle.plan.proofs.NodeTable.{is, is-not}
 
 module _ (rows table : List ℕ) (k : ℕ) {tag : ℕ} (read : tag ≡ tag-at rows k) where

@@ -13,9 +13,9 @@ use Rattle.field.specs.Answer.{Answer, good, _>>_}
 use Rattle.algebra.specs.Expr.{Expr, action, sequence, choice, parallel, loop, scope}
 use Rattle.algebra.specs.Exclusive.{exclusive}
 use Rattle.plan.specs.Loops.{faulty-loops, no-fault, check-loops}
-use Rattle.plan.specs.Nodes.{node-count}
-use Rattle.plan.specs.Table.{Table, Node, tag-at, after-at, Known}
-use Rattle.plan.specs.Judged.{bit, exclusive-bit, exclusive-by, fault-by, joined, Judged}
+use Rattle.plan.specs.inner.Nodes.{node-count}
+use Rattle.plan.specs.inner.Table.{Table, Node, tag-at, after-at, Known}
+use Rattle.plan.specs.inner.Judged.{bit, exclusive-bit, exclusive-by, fault-by, all-values, Judged}
 use Rattle.plan.proofs.Stands.{stands-one}
 use Rattle.plan.proofs.NodeTable.{node-says, sequence-operands, choice-operands, parallel-operands, loop-operands, scope-operand}
 use Rattle.plan.proofs.NodeValues.{table-node, every, none-known, one-known}
@@ -72,29 +72,29 @@ module _ (rows : List ℕ) (count : ℕ) (table : List ℕ) where
         rw (s .tag, second F e f, s .offset) (fault-bit (exclusive F) at)
     fault-right (scope a E) n = rw (node-says rows count (scope a E) n .tag) refl
 
--- Lists joined over numbers one after another.
-joined-add : (f : ℕ → List ℕ) (k a b : ℕ) → joined f k (a + b) ≡ joined f k a ++ joined f (k + a) b
-unfolding joined
-joined-add f k zero b = let p : 0 + b ≡ b = omega arith in let q : k ≡ k + 0 = omega arith in ap (joined f k) p ∙ ap (λ m. joined f m b) q
+-- Lists all-values over numbers one after another.
+joined-add : (f : ℕ → List ℕ) (k a b : ℕ) → all-values f k (a + b) ≡ all-values f k a ++ all-values f (k + a) b
+unfolding all-values
+joined-add f k zero b = let p : 0 + b ≡ b = omega arith in let q : k ≡ k + 0 = omega arith in ap (all-values f k) p ∙ ap (λ m. all-values f m b) q
 joined-add f k (suc a) b =
     let p : suc a + b ≡ suc (a + b) = omega arith in
     let q : k + 1 + a ≡ k + suc a = omega arith in
-    ap (joined f k) p
-    ∙ ap (λ l. f k ++ l) (joined-add f (k + 1) a b ∙ ap (λ m. joined f (k + 1) a ++ joined f m b) q)
-    ∙ sym (append-assoc (f k) (joined f (k + 1) a) (joined f (k + suc a) b))
+    ap (all-values f k) p
+    ∙ ap (λ l. f k ++ l) (joined-add f (k + 1) a b ∙ ap (λ m. all-values f (k + 1) a ++ all-values f m b) q)
+    ∙ sym (append-assoc (f k) (all-values f (k + 1) a) (all-values f (k + suc a) b))
 
--- The lists from k on are those of a list, joined.
+-- The lists from k on are those of a list, all-values.
 record Joins (f : ℕ → List ℕ) (k count : ℕ) (l : List ℕ) : Type 0 where
-  pub same : joined f k count ≡ l
+  pub same : all-values f k count ≡ l
 
 joined-one : {f : ℕ → List ℕ} {k : ℕ} {l : List ℕ} → f k ≡ l → Joins f k 1 l
-unfolding joined
+unfolding all-values
 joined-one {f} {k} e = record { same = append-nil (f k) ∙ e }
 
 joined-next : {f : ℕ → List ℕ} {k a b : ℕ} {l m : List ℕ} → Joins f k a l → Joins f (k + a) b m → Joins f k (a + b) (l ++ m)
 joined-next {f} {k} {a} {b} p q = record { same = joined-add f k a b ∙ ap₂ (λ x y. x ++ y) (p .same) (q .same) }
 
-joined-last : (f : ℕ → List ℕ) (k : ℕ) → joined f 0 (k + 1) ≡ joined f 0 k ++ f k
+joined-last : (f : ℕ → List ℕ) (k : ℕ) → all-values f 0 (k + 1) ≡ all-values f 0 k ++ f k
 joined-last f k = let p : 0 + k ≡ k = omega arith in joined-next (record { same = refl }) (joined-one (ap f p)) .same
 
 module _ (rows : List ℕ) (count : ℕ) (table : List ℕ) (known : Known rows count 1 exclusive-bit 0 table) where
@@ -131,7 +131,7 @@ first-alone (at ∷ l) = refl
 
 -- Nothing is left to judge.
 pub none-left : (rows table : List ℕ) {k : ℕ} (answer : Answer (Unit {0})) → k ≡ 0 → Judged rows k table table answer answer
-unfolding joined
+unfolding all-values
 none-left rows table answer e =
     subst (λ k. Judged rows k table table answer answer) (sym e)
     (record { kept = λ m h. refl; known = λ count known. known; first = λ ordered. refl })
@@ -163,8 +163,8 @@ module _ (rows : List ℕ) (k : ℕ) (before after : List ℕ) (here : k < lengt
             (λ i at E n. stands-one between k (getD-set-same before k _ 0 here ∙ judged-right rows count before k known E n)));
         first = λ ordered.
             j .first (λ m h. ordered m (omega arith))
-            ∙ ap (λ l. no-fault (joined (fault-by rows after) 0 k) >> (no-fault l >> rest)) (same-fault (j .kept) (ordered k (omega arith)))
-            ∙ sym (first-of-both (joined (fault-by rows after) 0 k) (fault-by rows after k) rest)
+            ∙ ap (λ l. no-fault (all-values (fault-by rows after) 0 k) >> (no-fault l >> rest)) (same-fault (j .kept) (ordered k (omega arith)))
+            ∙ sym (first-of-both (all-values (fault-by rows after) 0 k) (fault-by rows after k) rest)
             ∙ ap (λ l. no-fault l >> rest) (sym (joined-last (fault-by rows after) k));
       }
 
@@ -199,6 +199,6 @@ all-judged {rows} {before} {after} {count} j E t =
     let n = table-node t in
     let known = j .known count (none-known rows count 1 exclusive-bit before) in
     j .first (λ m h. every rows count (λ k. tag-at rows k ≡ 5 → k < after-at rows (k + 1)) (loops-ordered rows count) E n m (omega arith) (omega (arith, t .nodes)))
-    ∙ first-alone (joined (fault-by rows after) 0 count)
-    ∙ ap (λ m. no-fault (joined (fault-by rows after) 0 m)) (t .nodes)
+    ∙ first-alone (all-values (fault-by rows after) 0 count)
+    ∙ ap (λ m. no-fault (all-values (fault-by rows after) 0 m)) (t .nodes)
     ∙ ap no-fault (faults-right rows count after known E n .same)

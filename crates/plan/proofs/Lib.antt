@@ -12,7 +12,6 @@ pub mod NodeTable
 pub mod NodeValues
 pub mod Stands
 pub mod Heads
-pub mod ReaderDetermined
 pub mod Readers
 pub mod Rows
 pub mod Stores

@@ -7,8 +7,8 @@ use mathlib.Core.List.{List, [], _∷_, _++_}
 use lib.ListN.{length, getD, length-append}
 use Rattle.algebra.specs.Expr.{Expr, action, sequence, choice, parallel, loop, scope, actions}
 use Rattle.plan.specs.Loops.{bytes}
-use Rattle.plan.specs.Nodes.{Row, row, numbers, nodes, node-count}
-use Rattle.plan.specs.Table.{Stands, Node, tag-at, after-at}
+use Rattle.plan.specs.inner.Nodes.{Row, row, numbers, nodes, node-count}
+use Rattle.plan.specs.inner.Table.{Stands, Node, tag-at, after-at}
 use Rattle.plan.proofs.Stands.{stands-first, stands-second, stands-at}
 
 numbers-append : (rs qs : List Row) → numbers (rs ++ qs) ≡ numbers rs ++ numbers qs

@@ -8,8 +8,8 @@ use mathlib.Core.Path.{_≡_, sym, _∙_, ap, subst}
 use mathlib.Core.List.{List, _++_}
 use lib.ListN.{length, getD, length-append, length-take}
 use Rattle.algebra.specs.Expr.{Expr, action, sequence, choice, parallel, loop, scope}
-use Rattle.plan.specs.Nodes.{nodes, node-count, node-table}
-use Rattle.plan.specs.Table.{Table, Stands, Node, values, Known}
+use Rattle.plan.specs.inner.Nodes.{nodes, node-count, node-table}
+use Rattle.plan.specs.inner.Table.{Table, Stands, Node, values, Known}
 use Rattle.plan.proofs.Stands.{stands-both, stands-at, stands-take, stands-kept}
 use Rattle.plan.proofs.NodeTable.{rows-length, sequence-operands, choice-operands, parallel-operands, loop-operands, scope-operand}
 

@@ -9,7 +9,7 @@ use lib.ListN.{length}
 use Rattle.field.specs.Answer.{good}
 use Rattle.field.specs.Field.{field}
 use Rattle.algebra.specs.Expr.{Expr, action, sequence, choice, parallel, loop, scope, actions}
-use Rattle.plan.specs.Reading.{is-name, Tag, action-tag, sequence-tag, choice-tag, parallel-tag, loop-tag, scope-tag, tag-at, Operands}
+use Rattle.plan.specs.Reading.{is-name, Tag, action-tag, sequence-tag, choice-tag, parallel-tag, loop-tag, scope-tag, tag-spelt, Operands}
 use Rattle.plan.specs.Loops.{bytes}
 use Rattle.plan.specs.Bytes.{encode, depth, named}
 
@@ -85,8 +85,8 @@ abbrev pub all-named : (k : ℕ) → Operands k → Bool
 all-named zero es = true
 all-named (suc k) es = named (es .0) && all-named k (es .1)
 
-pub number-tag : (g : Tag) (at : ℕ) → tag-at (tag-number g) at ≡ good g
-unfolding tag-at
+pub number-tag : (g : Tag) (at : ℕ) → tag-spelt (tag-number g) at ≡ good g
+unfolding tag-spelt
 number-tag action-tag at = refl
 number-tag sequence-tag at = refl
 number-tag choice-tag at = refl

@@ -16,10 +16,10 @@ use Rattle.field.specs.Field.{tag-of, length-of, body-of, field}
 use Rattle.field.proofs.Tests.{and-parts, parts-and, T-true}
 use Rattle.field.proofs.Fields.{field-length, field-tag-of, field-length-of, field-body-of}
 use Rattle.algebra.specs.Expr.{Expr, action, actions}
-use Rattle.plan.specs.Reading.{is-label, Tag, action-tag, tag-at, Part, Operands, Parts, Reader, read-operands, read-body, read-field, read-plan, is-name}
+use Rattle.plan.specs.Reading.{is-label, Tag, action-tag, tag-spelt, Part, Operands, Parts, Reader, read-operands, read-body, read-field, read-plan, is-name}
 use Rattle.plan.specs.Loops.{bytes}
 use Rattle.plan.specs.Bytes.{encode, depth, named, within-limits}
-use Rattle.plan.specs.Inner.{field-with}
+use Rattle.plan.specs.inner.Fields.{field-with}
 use Rattle.plan.proofs.Operators.{Operator, sequence-of, choice-of, parallel-of, loop-of, scope-of, tag, number, arity, own, own-named, built, all-encode, all-bytes, all-actions, all-depth, all-named, number-tag, built-encode, built-bytes, built-actions, built-depth, built-named, Each, by-operators}
 use Rattle.plan.proofs.Within.{limits-within}
 
@@ -49,12 +49,12 @@ unfolding read-field field-with
 read-field-with d s at n = refl
 
 -- where the tests of a header are passed, the body is what is read next
-pub header-passes : (read : Reader) (s : List ℕ) (at n : ℕ) (g : Tag) → 3 ≤ length s → tag-at (tag-of s) at ≡ good g → length-of s ≤ length s - 3
+pub header-passes : (read : Reader) (s : List ℕ) (at n : ℕ) (g : Tag) → 3 ≤ length s → tag-spelt (tag-of s) at ≡ good g → length-of s ≤ length s - 3
     → field-with read s at n ≡ read-body read g (body-of s) at (3 + length-of s) n
 unfolding field-with
 header-passes read s at n g h e l = rw (le-leb 3 (length s) h, e, le-leb (length-of s) (length s - 3) l)
 
-header-reads : (d t : ℕ) (g : Tag) (body rest : List ℕ) (at n : ℕ) → tag-at t at ≡ good g
+header-reads : (d t : ℕ) (g : Tag) (body rest : List ℕ) (at n : ℕ) → tag-spelt t at ≡ good g
     → read-field (suc d) (field t body ++ rest) at n ≡ read-body (read-field d) g body at (3 + length body) n
 header-reads d t g body rest at n e =
     let k : length (field t body ++ rest) ≡ 3 + length body + length rest = length-append (field t body) rest ∙ ap (λ (m : ℕ). m + length rest) (field-length t body) in

@@ -14,8 +14,8 @@ use Rattle.field.specs.Answer.{Answer, good, refused, _>>=_}
 use Rattle.algebra.specs.Expr.{actions}
 use Rattle.plan.specs.Loops.{bytes}
 use Rattle.plan.specs.Reading.{Part, Parts, Reader, read-operands, read-field}
-use Rattle.plan.specs.Nodes.{numbers, node-count, nodes}
-use Rattle.plan.specs.Inner.{all-nodes, all-rows, with-row, field-with, IsOperator, HeadIs, FieldFits, FieldIs, OperandsAre}
+use Rattle.plan.specs.inner.Nodes.{numbers, node-count, nodes}
+use Rattle.plan.specs.inner.Fields.{all-nodes, all-rows, with-row, field-with, IsOperator, HeadIs, FieldFits, FieldIs, OperandsAre}
 use Rattle.plan.specs.declared.Head.{Head}
 use Rattle.plan.specs.declared.Head.the-variants as head
 use Rattle.plan.specs.declared.FieldRead.{FieldRead}

@@ -9,8 +9,8 @@ use lib.ListN.{length, length-append}
 use Rattle.algebra.specs.Expr.{Expr, action, actions}
 use Rattle.plan.specs.Loops.{bytes}
 use Rattle.plan.specs.Reading.{Operands}
-use Rattle.plan.specs.Nodes.{Row, row, numbers, node-count, nodes}
-use Rattle.plan.specs.Inner.{all-nodes, all-rows}
+use Rattle.plan.specs.inner.Nodes.{Row, row, numbers, node-count, nodes}
+use Rattle.plan.specs.inner.Fields.{all-nodes, all-rows}
 use Rattle.plan.proofs.Operators.{Operator, sequence-of, choice-of, parallel-of, loop-of, scope-of, number, arity, own, built, Each, by-operators}
 
 abbrev pub own-byte : Operator → ℕ

@@ -8,7 +8,7 @@ use mathlib.Core.Path.{_≡_, sym, _∙_, ap, subst}
 use mathlib.Core.List.{List, [], _∷_, _++_}
 use lib.ListN.{length, getD, take, drop, length-append, length-drop, length-take, List·getD-append}
 use lib.Seq.{getD-append-add, getD-take, getD-drop, ext-getD}
-use Rattle.plan.specs.Table.{Stands}
+use Rattle.plan.specs.inner.Table.{Stands}
 
 module _ (table : List ℕ) where
   pub stands-first : (at : ℕ) (l m : List ℕ) → Stands table at (l ++ m) → Stands table at l

@@ -9,8 +9,8 @@ use native.Mathlib.Numerals.{add-one, add-two, add-three}
 use lib.ListN.{length, set}
 use lib.Seq.{sets, set-comm}
 use Rattle.algebra.specs.Expr.{Expr}
-use Rattle.plan.specs.Nodes.{Row, row, numbers, node-count, nodes}
-use Rattle.plan.specs.Inner.{with-row}
+use Rattle.plan.specs.inner.Nodes.{Row, row, numbers, node-count, nodes}
+use Rattle.plan.specs.inner.Fields.{with-row}
 use Rattle.plan.proofs.Rows.{numbers-append, numbers-length, nodes-length}
 
 pub sets-append : (l : List ℕ) (i : ℕ) (xs ys : List ℕ) → sets l i (xs ++ ys) ≡ sets (sets l i xs) (i + length xs) ys

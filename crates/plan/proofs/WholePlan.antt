@@ -12,9 +12,9 @@ use Rattle.field.specs.Refusals.{plan-too-long}
 use Rattle.field.specs.Answer.{Answer, good, refused, _>>=_}
 use Rattle.algebra.specs.Expr.{Expr, actions}
 use Rattle.plan.specs.Reading.{Parts, read-operands, read-field, read-plan}
-use Rattle.plan.specs.Nodes.{Row, sizes-of, numbers, nodes, node-count, node-table}
-use Rattle.plan.specs.Inner.{OperandsAre, OperandsFit}
-use Rattle.plan.specs.Says.{says, read-sizes, RowsAre}
+use Rattle.plan.specs.inner.Nodes.{Row, sizes-of, numbers, nodes, node-count, node-table}
+use Rattle.plan.specs.inner.Fields.{OperandsAre, OperandsFit}
+use Rattle.plan.specs.inner.Says.{says, read-sizes, RowsAre}
 use Rattle.plan.specs.declared.OperandsRead.{OperandsRead}
 use Rattle.plan.specs.declared.OperandsRead.the-variants as operands-read
 use Rattle.plan.specs.declared.PlanRead.{PlanRead}

@@ -1,9 +1,4 @@
 pub mod Reading
 pub mod Loops
 pub mod Bytes
-pub mod Nodes
-pub mod Judged
-pub mod Judging
-pub mod Table
-pub mod Inner
-pub mod Says
+pub mod inner

@@ -23,8 +23,8 @@ pub data Tag : Type 0 where
   action-tag sequence-tag choice-tag parallel-tag loop-tag scope-tag : Tag
 
 -- "unknown tag", with the field's offset.
-unfoldable pub tag-at : ℕ → ℕ → Answer Tag
-tag-at t at =
+unfoldable pub tag-spelt : ℕ → ℕ → Answer Tag
+tag-spelt t at =
     cond (eqb t 1) (good action-tag)
     (cond (eqb t 2) (good sequence-tag)
     (cond (eqb t 3) (good choice-tag)
@@ -91,11 +91,11 @@ read-body read scope-tag body at bytes n = do
 
 -- "the tests of one field as the table runs (2 for the header, 3, 2 for the length)". The first number is the levels that are left: "depth 33".
 unfoldable pub read-field : ℕ → Reader
-unfolding read-body tag-at
+unfolding read-body tag-spelt
 read-field zero s at n = refused too-deep at
 read-field (suc d) s at n = do
   check (leb 3 (length s)) field-cut at
-  t ← tag-at (tag-of s) at
+  t ← tag-spelt (tag-of s) at
   check (leb (length-of s) (length s - 3)) field-cut at
   read-body (read-field d) t (body-of s) at (3 + length-of s) n
 

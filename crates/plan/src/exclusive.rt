@@ -12,9 +12,9 @@ ghost use Prim.Native.Nat.{_+_, _*_, _<_, _≤_};
 ghost use lib.ListN.{length, getD};
 ghost use Rattle.algebra.specs.Expr.{Expr};
 ghost use Rattle.plan.specs.Loops.{no-fault, check-loops};
-ghost use Rattle.plan.specs.Table.{Table};
-ghost use Rattle.plan.specs.Judged.{loops-say, offset-says, first-refusal, exclusive-by, fault-by};
-ghost use Rattle.plan.specs.Judging.{JudgesDown};
+ghost use Rattle.plan.specs.inner.Table.{Table};
+ghost use Rattle.plan.specs.inner.Judged.{loops-say, offset-says, first-refusal, exclusive-by, fault-by};
+ghost use Rattle.plan.specs.inner.Judging.{JudgesDown};
 
 // So many nodes are few.
 const FEW_NODES: usize = 64;

@@ -8,8 +8,8 @@ ghost use lib.ListN.{length};
 ghost use Rattle.field.specs.Limits.{plan-limit};
 ghost use Rattle.field.specs.Field.{length-of, body-of};
 ghost use Rattle.plan.specs.Reading.{action-tag, scope-tag, read-body, read-operands, read-field, read-plan};
-ghost use Rattle.plan.specs.Says.{says, read-sizes, RowsAre};
-ghost use Rattle.plan.specs.Inner.{HeadFits, HeadIs, Inside, field-with, RowFits, with-row, FieldFits, FieldIs, OperandsFit, OperandsAre, Room};
+ghost use Rattle.plan.specs.inner.Says.{says, read-sizes, RowsAre};
+ghost use Rattle.plan.specs.inner.Fields.{HeadFits, HeadIs, Inside, field-with, RowFits, with-row, FieldFits, FieldIs, OperandsFit, OperandsAre, Room};
 
 // A node takes 3 bytes at least, so a plan has at most 1,365 of them.
 pub const NODES: usize = field::PLAN_LIMIT / 3 + 1;
@@ -294,12 +294,4 @@ pub fn read_plan_in(plan: &[u8], rows: &mut [u16]) -> PlanRead
             actions: actions,
         },
     }
-}
-
-// The same with room for any plan.
-pub fn read_plan(plan: &[u8], rows: &mut [u16; ROWS]) -> PlanRead
-    ensures answer { λ r. ⌜ says r ≡ read-sizes (now (plan .entry)) ⌝ }
-    ensures rows { λ r. ⌜ RowsAre (read-plan (now (plan .entry))) (now (rows .entry)) (now (rows .exit)) ⌝ }
-{
-    read_plan_in(plan, rows)
 }

@@ -5,7 +5,7 @@ use mathlib.Core.Path.{_≡_}
 use mathlib.Core.List.{List}
 use lib.ListN.{length, drop}
 use denote.Ref.{RefT, now}
-use Rattle.step.specs.FormSays.{head-says, HeadFits, step-head}
+use Rattle.step.specs.inner.FormSays.{head-says, HeadFits, step-head}
 use Rattle.step.specs.declared.form.HeadAnswer.{HeadAnswer}
 use Rattle.record.specs.declared.RecordReader.{RecordReader}
 

@@ -7,7 +7,7 @@ use native.Mathlib.Omega.{arith}
 use lib.ListN.{length, take, drop, length-drop}
 use lib.Seq.{drop-drop}
 use Rattle.step.specs.Form.{read-items}
-use Rattle.step.specs.FormSays.{items-say, HeadFits}
+use Rattle.step.specs.inner.FormSays.{items-say, HeadFits}
 use Rattle.step.specs.declared.form.HeadAnswer.{HeadAnswer}
 use Rattle.step.specs.declared.form.HeadAnswer.the-variants as head-answer
 use Rattle.step.specs.declared.form.ItemsAnswer.{ItemsAnswer}

@@ -10,7 +10,7 @@ ghost use mathlib.Core.Path.{_≡_};
 ghost use Prim.Native.Nat.{_+_, _≤_};
 ghost use lib.ListN.{length, drop};
 ghost use Rattle.step.specs.Form.{read-step};
-ghost use Rattle.step.specs.FormSays.{head-says, HeadFits, step-head, step-says, StepFits};
+ghost use Rattle.step.specs.inner.FormSays.{head-says, HeadFits, step-head, step-says, StepFits};
 
 // A record, and the offset of the step that is read next.
 pub struct RecordReader<'a> {

@@ -11,11 +11,14 @@ use mathlib.Core.Bool.{Bool, true, false, cond}
 use mathlib.Core.List.{List, [], _∷_, _++_}
 use lib.ListN.{length, drop}
 use lib.Dec.{leb, le→leb}
+use contract.Lifetimes.{Lfts}
+use borrow.Fn.Kinds.{Dens}
 use Rattle.field.specs.Limits.{record-limit}
 use Rattle.field.specs.Refusals.{two-tokens, no-transition, input-empty, input-shared}
 use Rattle.field.specs.Answer.{good, _>>=_}
 use Rattle.field.proofs.Tests.{T-true}
 use Rattle.field.proofs.Answers.{bind-good}
+use Rattle.field.proofs.OneResult.{Result, Allowed}
 use Rattle.algebra.specs.Expr.{Expr}
 use Rattle.algebra.specs.Item.{Item}
 use Rattle.algebra.specs.Exclusive.{LoopsExclusive}
@@ -43,6 +46,8 @@ use Rattle.run.specs.declared.Ran.the-variants.{Finished, Unfinished, Refused}
 use Rattle.run.proofs.Determined.{ran-once}
 use Rattle.replay.specs.Replay.{Replayed, start, replay}
 use Rattle.replay.specs.Recorded.{steps-of, Whole, After}
+use Rattle.replay.proofs.replay.Kinds as call
+use Rattle.replay.proofs.replay.Reads as reads
 use Rattle.replay.proofs.FormRefusals.{FormsIn, steps-form, after-form}
 use Rattle.replay.proofs.Runs.{Stops, at-no-step, at-step, RunSays, run-says, fired-accepted}
 
@@ -172,9 +177,30 @@ each-point-before E As Bs m p =
       },
     )
 
--- The same of the call `replay`: any answer r and any buffer at exit that its contract allows.
-module _ (plan record-bytes buffer : List ℕ) (E : Expr) (yes-plan : accept plan ≡ good E) (short : length record-bytes ≤ record-limit) (room : place-count (net-of E) ≤ length buffer)
-    (r : Ran) (exit : List ℕ) (says : ran-says r ≡ replay plan record-bytes buffer .verdict) (leaves : exit ≡ replay plan record-bytes buffer .buffer) where
+-- The same of the call `replay`: any answer and any buffer at exit that its contract, as it is made from the code's clauses, allows.
+module _ (κs : Lfts 3) (a : Dens κs call.ps) (z : Result 3 call.ps call.r κs a) (allowed : Allowed 3 call.ps call.r reads.Post κs a z) (E : Expr) (yes-plan : accept (a .0 .now) ≡ good E)
+    (short : length (a .1 .0 .now) ≤ record-limit) (room : place-count (net-of E) ≤ length (a .1 .1 .0 .now)) where
+  abbrev plan : List ℕ
+  plan = a .0 .now
+
+  abbrev record-bytes : List ℕ
+  record-bytes = a .1 .0 .now
+
+  abbrev buffer : List ℕ
+  buffer = a .1 .1 .0 .now
+
+  abbrev r : Ran
+  r = z .0
+
+  abbrev exit : List ℕ
+  exit = z .1 .1 .1 .0
+
+  says : ran-says r ≡ replay plan record-bytes buffer .verdict
+  says = allowed .0
+
+  leaves : exit ≡ replay plan record-bytes buffer .buffer
+  leaves = allowed .1
+
   pub call-demand-3 : Demand3 E (read-steps 0 0 record-bytes) buffer (record { verdict = ran-says r; buffer = exit })
   call-demand-3 = subst (Demand3 E (read-steps 0 0 record-bytes) buffer) (λ i. record { verdict = sym says i; buffer = sym leaves i }) (demand-3 plan record-bytes buffer E yes-plan short room)
 

@@ -1,15 +1,34 @@
--- The contract of `replay` determines its answer and every byte of the buffer: two results that it allows are equal.
+-- `replay` asks nothing, and its contract determines its answer and every byte of the buffer.
 -- The contract equates both with a function of the input, and no two answers of the code say the same.
-use Prim.Native.Nat.{ℕ}
-use mathlib.Core.Path.{_≡_, sym, _∙_}
-use mathlib.Core.List.{List}
+use mathlib.Core.Path.{_≡_, refl, sym, _∙_}
+use contract.Lifetimes.{Lfts}
+use borrow.Fn.Kinds.{Dens}
+use Rattle.field.proofs.OneResult.{One, Allowed, Answered}
+use Rattle.run.specs.Run.{Verdict, finished, unfinished, refusal}
 use Rattle.run.specs.Says.{ran-says}
 use Rattle.run.specs.declared.Ran.{Ran}
+use Rattle.run.specs.declared.Ran.the-variants.{Finished, Unfinished, Refused}
 use Rattle.run.proofs.Determined.{ran-once}
 use Rattle.replay.specs.Replay.{replay}
+use Rattle.replay.proofs.replay.Kinds as kinds
+use Rattle.replay.proofs.replay.Reads as reads
 
-pub replay-determined : (plan run-record buffer : List ℕ) (r q : Ran) (exit exit′ : List ℕ)
-    → ran-says r ≡ replay plan run-record buffer .verdict → exit ≡ replay plan run-record buffer .buffer
-    → ran-says q ≡ replay plan run-record buffer .verdict → exit′ ≡ replay plan run-record buffer .buffer
-    → (r ≡ q) × (exit ≡ exit′)
-replay-determined plan run-record buffer r q exit exit′ a x b y = (ran-once r q (a ∙ sym b), x ∙ sym y)
+said : (v : Verdict) → (r : Ran) × (ran-says r ≡ v)
+said (finished k) = (Finished k, refl)
+said (unfinished k) = (Unfinished k, refl)
+said (refusal n c k) = (Refused n c k, refl)
+
+pub replay-answered : Answered 3 kinds.ps kinds.r reads.Asked reads.Post
+replay-answered = record { free = λ κs a. tt; one = one }
+  where
+    one : (κs : Lfts 3) (a : Dens κs kinds.ps) → One (Allowed 3 kinds.ps kinds.r reads.Post κs a)
+    one κs a =
+        let d = replay (a .0 .now) (a .1 .0 .now) (a .1 .1 .0 .now) in
+        let r = said (d .verdict) in
+        record {
+          some = ((r .0, (tt, (tt, (d .buffer, tt)))), (r .1, refl));
+          only = λ x y p q.
+              let r = ran-once (x .0) (y .0) (p .0 ∙ sym (q .0)) in
+              let b = p .1 ∙ sym (q .1) in
+              λ i. (r i, (tt, (tt, (b i, tt))));
+        }

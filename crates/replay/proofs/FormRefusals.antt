@@ -10,7 +10,7 @@ use Rattle.field.specs.Refusals.{record-field-cut, wrong-tag, wrong-length, not
 use Rattle.field.specs.Answer.{Answer, good, refused, _>>=_, _>>_, check}
 use Rattle.field.specs.Field.{tag-of, length-of, body-of}
 use Rattle.algebra.specs.Item.{Item, first}
-use Rattle.step.specs.Form.{check-header, one-tag, two-tag, item-tag, action-count, item-of, read-item, read-items, StepRead, read-step, Recorded, ends, step, no-step, one-more, read-steps}
+use Rattle.step.specs.Form.{check-header, one-tag, two-tag, item-tag, action-count, item-spelt, read-item, read-items, StepRead, read-step, Recorded, ends, step, no-step, one-more, read-steps}
 use Rattle.replay.specs.Recorded.{After, now, later}
 
 abbrev pub FormNumber : ℕ → Type 0
@@ -59,7 +59,7 @@ unfolding read-item
 item-form at least s =
     then (check-header at s) _ (header-form at s) (λ u. then (item-tag at (tag-of s)) _ (tag-form at (tag-of s)) (λ t.
     then (check (eqb (length-of s) (action-count t)) wrong-length at) _ (by-check (eqb (length-of s) (action-count t)) wrong-length at long) (λ u.
-    then (check (leb least (first (item-of t s))) not-rising at) _ (by-check (leb least (first (item-of t s))) not-rising at falls) (λ u. tt))))
+    then (check (leb least (first (item-spelt t s))) not-rising at) _ (by-check (leb least (first (item-spelt t s))) not-rising at falls) (λ u. tt))))
 
 items-form : (at passed least : ℕ) (s : List ℕ) → ByForm (read-items at passed least s)
 unfolding read-items

@@ -1,11 +1,11 @@
 -- 01, "Known nets": "Those with P are proved together": the nets of the plans, and what replay answers to the records.
--- The lent marking holds 9s beforehand, so a row also shows what of it is written.
+-- The full-room marking holds 9s beforehand, so a row also shows what of it is written.
 use Prim.Native.Nat.{ℕ}
 use mathlib.Core.Path.{_≡_, refl}
 use mathlib.Core.List.{List, [], _∷_, _++_, map}
 use lib.ListN.{replicate}
 use Rattle.boxes.specs.Compile.{compile}
-use Rattle.boxes.proofs.KnownNets.{Known, known, lent, known-nets, ab-then-c, a-alone}
+use Rattle.boxes.proofs.KnownNets.{Known, known, full-room, known-nets, ab-then-c, a-alone}
 use Rattle.run.specs.Run.{Verdict, finished, unfinished, refusal}
 use Rattle.replay.specs.Replay.{Replayed, replay}
 
@@ -38,7 +38,7 @@ known-runs =
     ∷ []
 
 pub record KnownNets : Type 0 where
-  nets : map (λ (k : Known). compile (k .plan) lent) known ≡ map (λ (k : Known). k .compiled) known
+  nets : map (λ (k : Known). compile (k .plan) full-room) known ≡ map (λ (k : Known). k .compiled) known
   runs : map (λ (k : KnownRun). replay (k .plan) (k .steps) buffer) known-runs ≡ map (λ (k : KnownRun). k .replayed) known-runs
 
 pub known-cases : KnownNets

@@ -22,7 +22,7 @@ use Rattle.run.specs.Says.{ran-says}
 use Rattle.run.specs.declared.Ran.{Ran}
 use Rattle.run.specs.declared.Ran.the-variants.{Refused}
 use Rattle.replay.specs.Replay.{Started, replayed, start, replay}
-use Rattle.replay.specs.OnANet.{start-on, RunIs, ReplayIs, Leaves}
+use Rattle.replay.specs.inner.OnANet.{start-on, RunIs, ReplayIs, Leaves}
 
 -- A run from what is the entry marking.
 pub runs-from-entries : (N : Net) (run-record marking : List ℕ) (r : Ran) (exit : List ℕ) → marking ≡ entry-marking N

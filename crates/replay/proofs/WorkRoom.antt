@@ -18,15 +18,15 @@ use Rattle.net.specs.Check.{is-net, check-net}
 use Rattle.net.proofs.ReadTables.{lent-tables}
 use Rattle.boxes.specs.Compile.{counts-of, accept}
 use Rattle.boxes.proofs.TablesAreANet.{lent-tables-are-a-net, lent-tables-are-the-net}
-use Rattle.tables.specs.Rows.{Whole, Asked}
-use Rattle.compile.specs.Says.{judged-says, net-counts, Drawn}
+use Rattle.tables.specs.inner.Rows.{Whole, Asked}
+use Rattle.compile.specs.inner.Judging.{judged-says, net-counts, Drawn}
 use Rattle.compile.specs.declared.judging.Judged.{Judged}
 use Rattle.compile.proofs.CompileCall.{IsFine, is-fine, asked, in-front, rows-long as rows-length}
-use Rattle.step.specs.Naming.{transitions-within, InOrder}
+use Rattle.step.specs.inner.Naming.{transitions-within, InOrder}
 use Rattle.step.proofs.NetInOrder.{net-in-order, transitions-lent}
 use Rattle.replay.specs.declared.Sizes.{Sizes}
-use Rattle.replay.specs.Fine.{fine, Told}
-use Rattle.replay.specs.OnANet.{Holds}
+use Rattle.replay.specs.inner.Fine.{fine, Told}
+use Rattle.replay.specs.inner.OnANet.{Holds}
 
 -- What was told of the judgement's answer is told of the sizes that it names.
 pub told-by : {plan lists index list : List ℕ} {r : Judged} {s : Sizes} → judged-says r ≡ net-counts plan → ((E : Expr) → accept plan ≡ good E → Drawn r lists index list E) → r ≡ fine s → Told plan lists index list s

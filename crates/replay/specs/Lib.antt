@@ -1,4 +1,3 @@
 pub mod Replay
 pub mod Recorded
-pub mod Fine
-pub mod OnANet
+pub mod inner

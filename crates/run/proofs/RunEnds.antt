@@ -11,10 +11,10 @@ use Rattle.field.specs.Lists.{all}
 use Rattle.algebra.specs.Net.{Net}
 use Rattle.algebra.specs.Marking.{exits-marked}
 use Rattle.step.specs.Form.{Recorded, read-steps}
-use Rattle.step.specs.Naming.{transitions-within}
+use Rattle.step.specs.inner.Naming.{transitions-within}
 use Rattle.run.specs.Run.{Run, refuse, run}
-use Rattle.run.specs.Steps.{StepTaken, step-of, take-step}
-use Rattle.run.specs.Says.{taken-says, TakenFits, Ends}
+use Rattle.run.specs.inner.Steps.{StepTaken, step-of, take-step}
+use Rattle.run.specs.inner.Ends.{taken-says, TakenFits, Ends}
 use Rattle.run.specs.declared.Ran.the-variants.{Finished, Unfinished, Refused}
 use Rattle.run.specs.declared.steps.Taken.{Taken}
 use Rattle.run.specs.declared.steps.Taken.the-variants as taken

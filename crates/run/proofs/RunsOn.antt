@@ -15,7 +15,7 @@ use Rattle.algebra.specs.Net.{Net, Transition}
 use Rattle.algebra.specs.Firing.{fire-items}
 use Rattle.step.specs.Form.{Recorded, step, StepRead, read-step, one-more, read-steps}
 use Rattle.run.specs.Run.{refuse, run}
-use Rattle.run.specs.Steps.{StepTaken, step-of, take-step}
+use Rattle.run.specs.inner.Steps.{StepTaken, step-of, take-step}
 
 pub steps-passed : (at k : ℕ) (s : List ℕ) → read-steps at k s ≡ read-steps (at + k) 0 (drop k s)
 unfolding read-steps

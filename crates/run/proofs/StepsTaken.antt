@@ -14,13 +14,14 @@ use Rattle.algebra.specs.Net.{Transition}
 use Rattle.algebra.specs.Firing.{fire-items}
 use Rattle.algebra.proofs.Fires.{moved-length, fires-of}
 use Rattle.step.specs.Form.{StepRead, read-step}
-use Rattle.step.specs.FormSays.{items-in, Bytes, step-says, StepFits}
-use Rattle.step.specs.Says.{fired-says, told, kept, Moves}
+use Rattle.step.specs.inner.FormSays.{items-in, Bytes, step-says, StepFits}
+use Rattle.step.specs.Says.{fired-says}
+use Rattle.step.specs.inner.Moves.{told, kept, Moves}
 use Rattle.step.specs.declared.Fired.{Fired}
 use Rattle.step.specs.declared.Fired.the-variants as fired
 use Rattle.step.specs.declared.form.StepAnswer.{StepAnswer}
 use Rattle.step.specs.declared.form.StepAnswer.the-variants as step-answer
-use Rattle.run.specs.Steps.{StepTaken, step-of, take-step}
+use Rattle.run.specs.inner.Steps.{StepTaken, step-of, take-step}
 
 -- The step that code has read lies in the bytes, and the two lists hold its items.
 pub step-fits : (left items bytes : ℕ) (q : StepAnswer) (firsts seconds : List ℕ) → StepFits left q firsts seconds → q ≡ step-answer.Step items bytes

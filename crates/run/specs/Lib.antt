@@ -1,3 +1,3 @@
 pub mod Run
-pub mod Steps
 pub mod Says
+pub mod inner

@@ -1,36 +1,9 @@
 -- What the answers of the code that runs a record say, case by case: 01's number and values.
-use Prim.Native.Nat.{ℕ, _+_, _≤_}
-use mathlib.Core.Path.{_≡_}
-use mathlib.Core.List.{List}
-use Rattle.field.specs.Answer.{Answer, refused}
-use Rattle.algebra.specs.Net.{Net}
-use Rattle.step.specs.Form.{Recorded}
-use Rattle.step.specs.Naming.{transitions-within}
-use Rattle.run.specs.Run.{Verdict, finished, unfinished, refusal, run}
-use Rattle.run.specs.Steps.{StepTaken, step-of}
+use Rattle.run.specs.Run.{Verdict, finished, unfinished, refusal}
 use Rattle.run.specs.declared.Ran.{Ran}
 use Rattle.run.specs.declared.Ran.the-variants.{Finished, Unfinished, Refused}
-use Rattle.run.specs.declared.steps.Taken.{Taken}
-use Rattle.run.specs.declared.steps.Taken.the-variants as taken
 
 abbrev pub ran-says : Ran → Verdict
 ran-says (Finished k) = finished k
 ran-says (Unfinished k) = unfinished k
 ran-says (Refused n c k) = refusal n c k
-
--- The marking is the one that the step leaves.
-abbrev pub taken-says : Taken → List ℕ → Answer StepTaken
-taken-says (taken.Step bytes) m = step-of bytes m
-taken-says (taken.Refused n c) m = refused n c
-
--- A step lies in the bytes; a refusal leaves the marking as it was.
-abbrev pub TakenFits : ℕ → Taken → List ℕ → List ℕ → Type 0
-TakenFits left (taken.Step bytes) entry exit = (1 ≤ bytes) × (bytes ≤ left)
-TakenFits left (taken.Refused n c) entry exit = exit ≡ entry
-
--- The code's answer and the marking that it leaves are those of a record's steps, from a number of steps and a marking on, in every net that
--- has these transitions and these places before its exits.
-abbrev pub Ends : Ran → List ℕ → List ℕ → List ℕ → ℕ → ℕ → ℕ → List ℕ → Recorded → Type 0
-Ends r exit rows arcs transitions exits-from steps entry recorded =
-    (N : Net) → N .transitions ≡ transitions-within rows arcs transitions → N .entries + N .internals ≡ exits-from
-    → (ran-says r ≡ run N steps entry recorded .verdict) × (exit ≡ run N steps entry recorded .marking)

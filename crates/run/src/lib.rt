@@ -8,7 +8,7 @@ ghost use lib.Dec.{leb};
 ghost use Rattle.field.specs.Lists.{all};
 ghost use Rattle.algebra.specs.Net.{Net};
 ghost use Rattle.step.specs.Form.{read-steps};
-ghost use Rattle.step.specs.Naming.{transitions-within, InOrder};
+ghost use Rattle.step.specs.inner.Naming.{transitions-within, InOrder};
 ghost use Rattle.run.specs.Run.{run};
 ghost use Rattle.run.specs.Says.{ran-says};
 use steps::Place;

@@ -7,13 +7,13 @@ use mathlib.Core.Path.{_≡_, refl, sym, _∙_, ap, subst}
 use mathlib.Core.List.{List, [], _∷_}
 use lib.ListN.{length, getD}
 use lib.Seq.{ext-getD}
-use Rattle.plan.specs.Table.{Stands}
-use Rattle.arcs.specs.Positions.{stretched, repeated}
-use Rattle.arcs.specs.Spreads.{Factor, Spread, copied, placed}
+use Rattle.plan.specs.inner.Table.{Stands}
+use Rattle.arcs.specs.inner.Positions.{stretched, repeated}
+use Rattle.arcs.specs.inner.Spreads.{Factor, Spread, copied, placed}
 use Rattle.arcs.specs.declared.sides.Side.{Side}
 use Rattle.arcs.proofs.Positions.{stretched-length, repeated-length, repeated-first}
-use Rattle.spread.specs.Lists.{OneList, list-row, place-of, Chain, Means}
-use Rattle.spread.specs.Placing.{Small, Stepped, CopiedOn}
+use Rattle.spread.specs.inner.Lists.{OneList, list-row, place-of, Chain, Means}
+use Rattle.spread.specs.inner.Placing.{Small, Stepped, CopiedOn}
 use Rattle.spread.proofs.Placings.{steps-stand, copies-stand}
 
 pub no-fewer : (times count : ℕ) → 0 < times → count ≤ times * count

@@ -6,7 +6,7 @@ use native.Mathlib.Nat.{mul-le-mul, zero-mul, one-mul}
 use mathlib.Core.Path.{_≡_, refl, sym, ap, subst}
 use mathlib.Core.Logic.{_⊎_, inl, inr}
 use borrow.Author.Tests.{eq-eqb, ne-eqb}
-use Rattle.spread.specs.Lists.{OneList, one-list, Short, lower-by}
+use Rattle.spread.specs.inner.Lists.{OneList, one-list, Short, lower-by}
 
 pub factor-fits : {a b : ℕ} → a ≤ 281462092005375 → b ≤ 65535 → a * b ≤ 18445618199572250625
 factor-fits {a} {b} p q = let z : a * b ≤ 281462092005375 * 65535 = mul-le-mul p q in omega arith

@@ -10,12 +10,12 @@ use lib.ListN.{length, getD}
 use lib.Dec.{eqb}
 use borrow.Author.Tests.{eqb-true, eqb-false}
 use Rattle.algebra.specs.Expr.{Expr}
-use Rattle.arcs.specs.Moves.{Kind, Entry, Internal, Exit, Move}
-use Rattle.arcs.specs.Spreads.{Factor, Spread, lowered, Spreads, list-of, under}
+use Rattle.arcs.specs.inner.Moves.{Kind, Entry, Internal, Exit, Move}
+use Rattle.arcs.specs.inner.Spreads.{Factor, Spread, lowered, Spreads, list-of, under}
 use Rattle.arcs.specs.declared.sides.Side.{Side}
 use Rattle.arcs.specs.declared.sides.Side.the-variants.{Inputs, Outputs}
 use Rattle.arcs.proofs.SpreadsFit.{Lowers, AllLower}
-use Rattle.spread.specs.Lists.{OneList, one-list, Short, list-row, list-by, lower, node-put, operand-put, place-of, Chain, Means, Has}
+use Rattle.spread.specs.inner.Lists.{OneList, one-list, Short, list-row, list-by, lower, node-put, operand-put, place-of, Chain, Means, Has}
 use Rattle.spread.proofs.RowsPut.{node-long, node-kept, node-in, node-out, node-inner}
 
 -- The root's lists are not copied, so that what goes on with them ends there.

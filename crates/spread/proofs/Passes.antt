@@ -15,15 +15,15 @@ use Rattle.algebra.specs.Expr.{Expr, action, sequence, choice, parallel, loop, 
 use Rattle.algebra.specs.Places.{places}
 use Rattle.algebra.specs.Arcs.{numbers}
 use Rattle.algebra.proofs.Lengths.{entries-of, internals-of, exits-of, places-length}
-use Rattle.plan.specs.Nodes.{node-count}
-use Rattle.plan.specs.Table.{tag-at, after-at, values}
+use Rattle.plan.specs.inner.Nodes.{node-count}
+use Rattle.plan.specs.inner.Table.{tag-at, after-at, values}
 use Rattle.plan.proofs.Stands.{stands-take}
 use Rattle.plan.proofs.NodeValues.{table-node}
-use Rattle.boxes.specs.NodeCounts.{counts-of, node-counts}
-use Rattle.arcs.specs.Moves.{Kind, Entry, Internal, Exit, Operand, First, Second, Third, Move, passes, own, sequence-move, choice-move, parallel-move, loop-move}
-use Rattle.boxes.specs.Counted.{counts-at}
-use Rattle.arcs.specs.Nodes.{At}
-use Rattle.arcs.specs.Spreads.{Spreads, placed, plain, list-of, under}
+use Rattle.boxes.specs.inner.NodeCounts.{box-counts, node-counts}
+use Rattle.arcs.specs.inner.Moves.{Kind, Entry, Internal, Exit, Operand, First, Second, Third, Move, passes, own, sequence-move, choice-move, parallel-move, loop-move}
+use Rattle.boxes.specs.inner.Counted.{counts-at}
+use Rattle.arcs.specs.inner.Nodes.{At}
+use Rattle.arcs.specs.inner.Spreads.{Spreads, placed, plain, list-of, under}
 use Rattle.arcs.specs.declared.sides.Side.{Side}
 use Rattle.arcs.specs.declared.sides.Side.the-variants.{Inputs, Outputs}
 use Rattle.boxes.specs.declared.counts.Counts.{Counts}
@@ -32,9 +32,9 @@ use Rattle.arcs.proofs.Children as kids
 use Rattle.arcs.proofs.Transitions.{numbers-few}
 use Rattle.arcs.proofs.Leads.{Leads, arcs, root, root-leads, action-leads, sequence-leads, choice-leads, parallel-leads, loop-leads, scope-leads}
 use Rattle.arcs.proofs.SpreadsFit.{AllFit, Parts, all-lower, sequence-parts, choice-parts, parallel-parts, loop-parts, scope-part}
-use Rattle.spread.specs.Lists.{OneList, one-list, Short, list-row, place-of, Chain, Means, Has}
-use Rattle.spread.specs.Walk.{root-put, two-put, three-put, operands-put, Counts-of, index-numbers, index-put, ActionPut}
-use Rattle.spread.specs.Spread.{Of, Listed, count-of, Told}
+use Rattle.spread.specs.inner.Lists.{OneList, one-list, Short, list-row, place-of, Chain, Means, Has}
+use Rattle.spread.specs.inner.Walk.{root-put, two-put, three-put, operands-put, Counts-of, index-numbers, index-put, ActionPut}
+use Rattle.spread.specs.inner.Spread.{Of, Listed, count-of, Told}
 use Rattle.spread.proofs.OperandRows.{Rooted, Stays}
 use Rattle.spread.proofs.RowsPut.{mod-small, sets-other, sets-at, node-long, node-in, node-out, node-inner}
 use Rattle.spread.proofs.Walks.{Knot, Ahead, Here, Next, means-kept, ahead-kept, ahead-actions, counts-are, two-next, three-next, one-next}
@@ -265,7 +265,7 @@ module _ (rows counts : List ℕ) (nodes : ℕ) (R : Expr) where
 module _ (rows counts : List ℕ) (nodes : ℕ) (R : Expr) (o : Of rows nodes counts R) (lists : List ℕ) (room : 11 * nodes ≤ length lists) (some : 0 < nodes) where
   root-at : At rows counts nodes 0 0 R
   unfolding node-counts
-  root-at = record { offset = 0; node = table-node (o .table); counted = stands-take counts (3 * nodes) (values counts-of R) (o .counted) }
+  root-at = record { offset = 0; node = table-node (o .table); counted = stands-take counts (3 * nodes) (values box-counts R) (o .counted) }
 
   all-few : entries-of R + (internals-of R + exits-of R) ≤ 2048
   all-few = omega (arith, o .few, places-length 0 R)

@@ -8,10 +8,10 @@ use mathlib.Core.Path.{_≡_, refl, sym, _∙_, ap, subst}
 use mathlib.Core.List.{List, [], _∷_}
 use lib.ListN.{length, getD, set, length-set}
 use lib.Seq.{getD-set-same, getD-set-other}
-use Rattle.plan.specs.Table.{Stands}
-use Rattle.arcs.specs.Positions.{stretched, repeated}
+use Rattle.plan.specs.inner.Table.{Stands}
+use Rattle.arcs.specs.inner.Positions.{stretched, repeated}
 use Rattle.arcs.proofs.Positions.{stretched-length, stretched-at, repeated-length, repeated-first, repeated-next}
-use Rattle.spread.specs.Placing.{Small, Stepped, CopiedOn}
+use Rattle.spread.specs.inner.Placing.{Small, Stepped, CopiedOn}
 
 -- ---- a turn of each loop
 pub steps-none : (from step : ℕ) (out : List ℕ) → Stepped from step 0 out out

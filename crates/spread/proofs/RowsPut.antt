@@ -9,7 +9,7 @@ use mathlib.Core.List.{List, [], _∷_}
 use lib.ListN.{length, getD, set, length-set}
 use lib.Seq.{sets, length-sets, getD-set-same, getD-set-other}
 use borrow.Author.Tests.{le-leb}
-use Rattle.spread.specs.Lists.{OneList, one-list, Short, list-row, list-numbers, row-of, node-put}
+use Rattle.spread.specs.inner.Lists.{OneList, one-list, Short, list-row, list-numbers, row-of, node-put}
 
 pub mod-small : (x : ℕ) → x ≤ 65535 → x % 65536 ≡ x
 mod-small x h = omega arith

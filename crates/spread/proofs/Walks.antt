@@ -8,20 +8,20 @@ use mathlib.Core.Logic.{_⊎_, inl, inr}
 use mathlib.Core.List.{List, [], _∷_, _++_}
 use lib.ListN.{length, getD}
 use Rattle.algebra.specs.Expr.{Expr, actions}
-use Rattle.plan.specs.Nodes.{node-count}
+use Rattle.plan.specs.inner.Nodes.{node-count}
 use Rattle.plan.proofs.NodeValues.{node-count-positive}
-use Rattle.arcs.specs.Moves.{Kind, Entry, Internal, Exit, Move, shift}
-use Rattle.boxes.specs.Counted.{counts-at}
-use Rattle.arcs.specs.Nodes.{At}
-use Rattle.arcs.specs.Spreads.{Spread, Spreads, under}
+use Rattle.arcs.specs.inner.Moves.{Kind, Entry, Internal, Exit, Move, shift}
+use Rattle.boxes.specs.inner.Counted.{counts-at}
+use Rattle.arcs.specs.inner.Nodes.{At}
+use Rattle.arcs.specs.inner.Spreads.{Spread, Spreads, under}
 use Rattle.arcs.specs.declared.sides.Side.{Side}
 use Rattle.arcs.specs.declared.sides.Side.the-variants.{Inputs, Outputs}
 use Rattle.arcs.proofs.Sizes.{sizes, counts-here}
 use Rattle.arcs.proofs.Children as kids
 use Rattle.arcs.proofs.Leads.{Leads}
 use Rattle.arcs.proofs.SpreadsFit.{Fits, AllFit, Parts, all-lower}
-use Rattle.spread.specs.Lists.{OneList, Short, list-row, operand-put, place-of, Means, Has}
-use Rattle.spread.specs.Walk.{one-put}
+use Rattle.spread.specs.inner.Lists.{OneList, Short, list-row, operand-put, place-of, Means, Has}
+use Rattle.spread.specs.inner.Walk.{one-put}
 use Rattle.spread.proofs.OperandRows.{Rooted, Stays, row-same, chain-below, chain-kept, operand-from, operand-has, operand-kept, operand-long}
 
 -- ---- rows that do not change

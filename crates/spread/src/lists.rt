@@ -6,7 +6,7 @@ ghost use mathlib.Core.List.{[]};
 ghost use Prim.Native.Nat.{_+_, _*_, _≤_};
 ghost use lib.ListN.{length};
 ghost use lib.Seq.{sets};
-ghost use Rattle.spread.specs.Lists.{Short, ShortNode, Modest, one-list, list-row, node-row, lower-by, list-numbers, node-put};
+ghost use Rattle.spread.specs.inner.Lists.{Short, ShortNode, Modest, one-list, list-row, node-row, lower-by, list-numbers, node-put};
 
 // One list of a node: position p is `width` numbers from base + p * width on; and these `times` times, each time `step` more, and then as
 // the list of node `up` on the same side. With 0 times they are all.

@@ -8,10 +8,10 @@ ghost use mathlib.Core.Path.{_≡_};
 ghost use mathlib.Core.List.{List, [], _∷_};
 ghost use Prim.Native.Nat.{ℕ, _+_, _*_, _%_, _≤_, _<_};
 ghost use lib.ListN.{length, getD};
-ghost use Rattle.arcs.specs.Spreads.{Factor, Spread, copied, placed};
-ghost use Rattle.plan.specs.Table.{Stands};
-ghost use Rattle.spread.specs.Lists.{list-row, place-of, Chain, Means};
-ghost use Rattle.spread.specs.Placing.{Small, Stepped, CopiedOn};
+ghost use Rattle.arcs.specs.inner.Spreads.{Factor, Spread, copied, placed};
+ghost use Rattle.plan.specs.inner.Table.{Stands};
+ghost use Rattle.spread.specs.inner.Lists.{list-row, place-of, Chain, Means};
+ghost use Rattle.spread.specs.inner.Placing.{Small, Stepped, CopiedOn};
 
 // Where a side's five numbers stand.
 pub fn place_of(side: Side, k: usize) -> usize

@@ -23,11 +23,11 @@ ghost use mathlib.Core.Path.{_≡_};
 ghost use Prim.Native.Nat.{ℕ, _+_, _*_, _≤_, _<_};
 ghost use lib.ListN.{length};
 ghost use Rattle.algebra.specs.Expr.{Expr, actions};
-ghost use Rattle.boxes.specs.Counted.{Small, counts-at};
-ghost use Rattle.arcs.specs.Moves.{sequence-move, choice-move, parallel-move};
-ghost use Rattle.spread.specs.Lists.{ShortNode, node-row};
-ghost use Rattle.spread.specs.Walk.{root-put, two-put, three-put, operands-put, index-numbers, index-put, ActionPut};
-ghost use Rattle.spread.specs.Spread.{Of, Told};
+ghost use Rattle.boxes.specs.inner.Counted.{Small, counts-at};
+ghost use Rattle.arcs.specs.inner.Moves.{sequence-move, choice-move, parallel-move};
+ghost use Rattle.spread.specs.inner.Lists.{ShortNode, node-row};
+ghost use Rattle.spread.specs.inner.Walk.{root-put, two-put, three-put, operands-put, index-numbers, index-put, ActionPut};
+ghost use Rattle.spread.specs.inner.Spread.{Of, Told};
 
 // "Final numbers: entries from 0, then internals, then exits."
 fn put_root(counts: &[u16], lists: &mut [u16])

@@ -15,7 +15,7 @@ use Rattle.field.proofs.Answers.{check-good, good-not-refused}
 use Rattle.net.specs.Check.{is-net}
 use Rattle.net.specs.Marking.{check-marking}
 use Rattle.net.specs.Lent.{lent}
-use Rattle.step.specs.Naming.{InOrder}
+use Rattle.step.specs.inner.Naming.{InOrder}
 use Rattle.step.proofs.NetInOrder.{net-in-order}
 
 pub marking-good : (places : ℕ) (m : List ℕ) (b : Bool) → check-marking places m ≡ check b no-marking 0 → b ≡ true → (places ≤ length m) × (all (λ x. leb x 1) (take places m) ≡ true)

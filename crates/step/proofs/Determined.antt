@@ -1,9 +1,10 @@
--- The contract of each public call determines its answer and what it leaves in what was lent: two results that it allows are equal.
+-- `fire` and `enabled` ask nothing, and the contract of each determines its answer and what it leaves in what was lent.
 -- The contract equates both with a function of the input, and no two answers of the code say the same.
 use Prim.Native.Nat.{ℕ}
 use mathlib.Core.Path.{_≡_, refl, sym, _∙_}
-use mathlib.Core.List.{List}
 use native.Mathlib.Omega.{arith}
+use contract.Lifetimes.{Lfts}
+use borrow.Fn.Kinds.{Dens}
 use Rattle.field.specs.Answer.{Answer, good, refused}
 use Rattle.net.specs.Lent.{lent}
 use Rattle.step.specs.Fire.{fire}
@@ -15,6 +16,11 @@ use Rattle.step.specs.declared.Fired.the-variants as fired
 use Rattle.step.specs.declared.Enabling.{Enabling}
 use Rattle.step.specs.declared.Enabling.the-variants as enabling
 use Rattle.field.proofs.Answers.{good-not-refused}
+use Rattle.field.proofs.OneResult.{One, Allowed, Answered}
+use Rattle.step.proofs.fire.Kinds as fire-kinds
+use Rattle.step.proofs.fire.Reads as fire-reads
+use Rattle.step.proofs.enabled.Kinds as enabled-kinds
+use Rattle.step.proofs.enabled.Reads as enabled-reads
 
 two-refusals : {A R : Type 0} (f : ℕ → ℕ → R) (n c k d : ℕ) → _≡_ {A = Answer A} (refused n c) (refused k d) → f n c ≡ f k d
 two-refusals f n c k d e = let p : n ≡ k = cc in let q : c ≡ d = cc in λ i. f (p i) (q i)
@@ -36,17 +42,43 @@ enabling-once (enabling.Refused n c) (enabling.Many k) e = good-not-refused (goo
 enabling-once (enabling.Refused n c) enabling.Stuck e = good-not-refused (good spec.stuck) spec.stuck n c refl (sym e)
 enabling-once (enabling.Refused n c) (enabling.Refused k d) e = two-refusals {A = spec.Enabling} enabling.Refused n c k d e
 
-module _ (kinds rows arcs : List ℕ) (places transitions arc-count : ℕ) where
-  -- `fire`: the answer and the marking afterwards.
-  pub fire-determined : (marking step : List ℕ) (r q : Fired) (exit exit′ : List ℕ)
-      → fired-says r ≡ fire (lent kinds rows arcs places transitions arc-count) marking step .answer → exit ≡ fire (lent kinds rows arcs places transitions arc-count) marking step .marking
-      → fired-says q ≡ fire (lent kinds rows arcs places transitions arc-count) marking step .answer → exit′ ≡ fire (lent kinds rows arcs places transitions arc-count) marking step .marking
-      → (r ≡ q) × (exit ≡ exit′)
-  fire-determined marking step r q exit exit′ a x b y = (fired-once r q (a ∙ sym b), x ∙ sym y)
+fired-said : (a : Answer (Unit {0})) → (r : Fired) × (fired-says r ≡ a)
+fired-said (good u) = (fired.Done, refl)
+fired-said (refused n c) = (fired.Refused n c, refl)
 
-  -- `enabled`: the answer and the list afterwards.
-  pub enabled-determined : (marking out : List ℕ) (r q : Enabling) (exit exit′ : List ℕ)
-      → enabling-says r ≡ enabled (lent kinds rows arcs places transitions arc-count) marking out .answer → exit ≡ enabled (lent kinds rows arcs places transitions arc-count) marking out .list
-      → enabling-says q ≡ enabled (lent kinds rows arcs places transitions arc-count) marking out .answer → exit′ ≡ enabled (lent kinds rows arcs places transitions arc-count) marking out .list
-      → (r ≡ q) × (exit ≡ exit′)
-  enabled-determined marking out r q exit exit′ a x b y = (enabling-once r q (a ∙ sym b), x ∙ sym y)
+enabling-said : (a : Answer spec.Enabling) → (r : Enabling) × (enabling-says r ≡ a)
+enabling-said (good (spec.enabling n)) = (enabling.Many n, refl)
+enabling-said (good spec.stuck) = (enabling.Stuck, refl)
+enabling-said (refused n c) = (enabling.Refused n c, refl)
+
+pub fire-answered : Answered 5 fire-kinds.ps fire-kinds.r fire-reads.Asked fire-reads.Post
+fire-answered = record { free = λ κs a. tt; one = one }
+  where
+    one : (κs : Lfts 5) (a : Dens κs fire-kinds.ps) → One (Allowed 5 fire-kinds.ps fire-kinds.r fire-reads.Post κs a)
+    one κs a =
+        let T = lent (a .0 .now) (a .1 .0 .now) (a .1 .1 .0 .now) (a .1 .1 .1 .0) (a .1 .1 .1 .1 .0) (a .1 .1 .1 .1 .1 .0) in
+        let f = fire T (a .1 .1 .1 .1 .1 .1 .0 .now) (a .1 .1 .1 .1 .1 .1 .1 .0 .now) in
+        let r = fired-said (f .answer) in
+        record {
+          some = ((r .0, (tt, (tt, (tt, (tt, (tt, (tt, (f .marking, (tt, tt))))))))), (r .1, refl));
+          only = λ x y p q.
+              let r = fired-once (x .0) (y .0) (p .0 ∙ sym (q .0)) in
+              let m = p .1 ∙ sym (q .1) in
+              λ i. (r i, (tt, (tt, (tt, (tt, (tt, (tt, (m i, (tt, tt)))))))));
+        }
+
+pub enabled-answered : Answered 5 enabled-kinds.ps enabled-kinds.r enabled-reads.Asked enabled-reads.Post
+enabled-answered = record { free = λ κs a. tt; one = one }
+  where
+    one : (κs : Lfts 5) (a : Dens κs enabled-kinds.ps) → One (Allowed 5 enabled-kinds.ps enabled-kinds.r enabled-reads.Post κs a)
+    one κs a =
+        let T = lent (a .0 .now) (a .1 .0 .now) (a .1 .1 .0 .now) (a .1 .1 .1 .0) (a .1 .1 .1 .1 .0) (a .1 .1 .1 .1 .1 .0) in
+        let e = enabled T (a .1 .1 .1 .1 .1 .1 .0 .now) (a .1 .1 .1 .1 .1 .1 .1 .0 .now) in
+        let r = enabling-said (e .answer) in
+        record {
+          some = ((r .0, (tt, (tt, (tt, (tt, (tt, (tt, (tt, (e .list, tt))))))))), (r .1, refl));
+          only = λ x y p q.
+              let r = enabling-once (x .0) (y .0) (p .0 ∙ sym (q .0)) in
+              let l = p .1 ∙ sym (q .1) in
+              λ i. (r i, (tt, (tt, (tt, (tt, (tt, (tt, (tt, (l i, tt)))))))));
+        }

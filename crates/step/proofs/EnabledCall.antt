@@ -18,7 +18,7 @@ use Rattle.net.specs.Tables.{Tables, transitions-in}
 use Rattle.net.specs.Check.{is-net, check-net}
 use Rattle.net.specs.Marking.{check-marking}
 use Rattle.step.specs.Enabled.{list-enabled, listed, how-many, enabled, enabling}
-use Rattle.step.specs.Naming.{transitions-within}
+use Rattle.step.specs.inner.Naming.{transitions-within}
 use Rattle.step.specs.Says.{enabling-says}
 use Rattle.step.specs.declared.Enabling.{Enabling}
 use Rattle.step.specs.declared.Enabling.the-variants.{Many, Stuck, Refused}

@@ -12,8 +12,8 @@ use lib.Dec.{leb}
 use Rattle.field.specs.Lists.{all}
 use Rattle.algebra.specs.Firing.{marked, enabled-from}
 use Rattle.net.specs.Tables.{transition-at, transitions-from}
-use Rattle.step.specs.Moving.{side-of, hold}
-use Rattle.step.specs.Naming.{rows-and-arcs, transition-in, transitions-within}
+use Rattle.step.specs.inner.Moving.{side-of, hold}
+use Rattle.step.specs.inner.Naming.{rows-and-arcs, transition-in, transitions-within}
 use Rattle.step.proofs.MovesAreFiring.{marked-hold}
 use Rattle.step.proofs.Outcome.{below-all}
 

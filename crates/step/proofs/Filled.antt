@@ -15,7 +15,7 @@ use Rattle.field.proofs.Alls.{all-at, all-append, and-assoc}
 use Rattle.field.proofs.Tests.{true-T}
 use Rattle.algebra.specs.Firing.{count}
 use Rattle.algebra.proofs.Enough.{count-here, count-other, count-member}
-use Rattle.step.specs.Moving.{hold, holds-each, filled, shifts, shifts-each, joined}
+use Rattle.step.specs.inner.Moving.{hold, holds-each, filled, shifts, shifts-each, in-one}
 use Rattle.step.proofs.Bools.{test}
 use Rattle.step.proofs.MoveTurns.{Agree, filled-append}
 
@@ -66,9 +66,9 @@ restored tokens m w ps l a h =
 pub filled-agrees : (tokens : ℕ) (m ps : List ℕ) → Agree ps m (filled tokens m ps)
 filled-agrees tokens m ps q z = filled-other tokens m ps q z
 
--- All lists pass exactly when the joined list does.
-pub holds-all : (tokens : ℕ) (m : List ℕ) (ls : List (List ℕ)) → leb (length ls) (holds-each tokens m ls) ≡ hold tokens m (joined ls)
-unfolding holds-each joined all
+-- All lists pass exactly when the in-one list does.
+pub holds-all : (tokens : ℕ) (m : List ℕ) (ls : List (List ℕ)) → leb (length ls) (holds-each tokens m ls) ≡ hold tokens m (in-one ls)
+unfolding holds-each in-one all
 holds-all tokens m [] = refl
 holds-all tokens m (ps ∷ ls) =
     test (hold tokens m ps)
@@ -82,8 +82,8 @@ shifts-append from to m (p ∷ a) b =
     ap (λ (x : Bool). eqb (getD m p 0) from && x) (shifts-append from to (set m p to) a b)
     ∙ sym (and-assoc (eqb (getD m p 0) from) (shifts from to (set m p to) a) (shifts from to (filled to (set m p to) a) b))
 
-pub shifts-all : (from to : ℕ) (m : List ℕ) (ls : List (List ℕ)) → leb (length ls) (shifts-each from to m ls) ≡ shifts from to m (joined ls)
-unfolding shifts-each joined shifts
+pub shifts-all : (from to : ℕ) (m : List ℕ) (ls : List (List ℕ)) → leb (length ls) (shifts-each from to m ls) ≡ shifts from to m (in-one ls)
+unfolding shifts-each in-one shifts
 shifts-all from to m [] = refl
 shifts-all from to m (ps ∷ ls) =
     test (shifts from to m ps)

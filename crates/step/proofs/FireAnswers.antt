@@ -16,10 +16,10 @@ use Rattle.algebra.specs.Item.{Item}
 use Rattle.algebra.specs.Net.{Transition}
 use Rattle.algebra.specs.Firing.{transitions-named, check-marked, check-apart, moved, fire-items}
 use Rattle.step.specs.Form.{read-lent-step}
-use Rattle.step.specs.FormSays.{items-in, items-say}
-use Rattle.step.specs.Moving.{sides, moves, Fits, AllFit}
-use Rattle.step.specs.Naming.{transition-in, transitions-within, found-says, InOrder}
-use Rattle.step.specs.Says.{Moves, read-and-fire}
+use Rattle.step.specs.inner.FormSays.{items-in, items-say}
+use Rattle.step.specs.inner.Moving.{sides, moves, Fits, AllFit}
+use Rattle.step.specs.inner.Naming.{transition-in, transitions-within, found-says, InOrder}
+use Rattle.step.specs.inner.Moves.{Moves, read-and-fire}
 use Rattle.step.specs.declared.form.ItemsAnswer.{ItemsAnswer}
 use Rattle.step.specs.declared.form.ItemsAnswer.the-variants as items-answer
 use Rattle.step.specs.declared.Fired.{Fired}

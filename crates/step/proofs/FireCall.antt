@@ -12,8 +12,9 @@ use Rattle.net.specs.Tables.{Tables, transitions-in}
 use Rattle.net.specs.Check.{is-net, check-net}
 use Rattle.net.specs.Marking.{check-marking}
 use Rattle.step.specs.Fire.{fire-step, fired, fire}
-use Rattle.step.specs.Naming.{transitions-within}
-use Rattle.step.specs.Says.{fired-says, told, kept, Moves, read-and-fire}
+use Rattle.step.specs.inner.Naming.{transitions-within}
+use Rattle.step.specs.Says.{fired-says}
+use Rattle.step.specs.inner.Moves.{told, kept, Moves, read-and-fire}
 use Rattle.step.specs.declared.Fired.{Fired}
 use Rattle.step.specs.declared.Fired.the-variants.{Done, Refused}
 use Rattle.step.proofs.NetInOrder.{transitions-lent}

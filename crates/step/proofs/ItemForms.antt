@@ -15,7 +15,7 @@ use Rattle.algebra.specs.Item.{Item, one, two, first}
 use Rattle.net.specs.Tables.{item-of}
 use Rattle.step.specs.Form as form
 use Rattle.step.specs.Form.{ItemTag, one-tag, two-tag, ItemRead, check-header, item-tag, action-count, read-item}
-use Rattle.step.specs.FormSays.{tag-count, step-head}
+use Rattle.step.specs.inner.FormSays.{tag-count, step-head}
 
 module _ (at : ℕ) (s : List ℕ) where
   pub header-short : length s < 3 → check-header at s ≡ refused record-field-cut at
@@ -48,7 +48,7 @@ module _ (at : ℕ) (s : List ℕ) where
       go false true e = (two-tag, refl, e)
       go false false e = absurd (n e)
 
-first-read : (t : ItemTag) (s : List ℕ) → first (form.item-of t s) ≡ getD s 3 0
+first-read : (t : ItemTag) (s : List ℕ) → first (form.item-spelt t s) ≡ getD s 3 0
 first-read one-tag s = refl
 first-read two-tag s = refl
 
@@ -72,7 +72,7 @@ module _ (at least : ℕ) (s : List ℕ) where
       item-low h k = let t = tag-some at s count e n in rw (g, t .1, ← t .2, eq-eqb (length-of s) count h, first-read (t .0) s, lt-leb least (getD s 3 0) k)
 
       pub item-read : length-of s ≡ count → least ≤ getD s 3 0
-          → (t : ItemTag) × (count ≡ action-count t) × (good (record { item = form.item-of t s; bytes = 3 + action-count t }) ≡ read-item at least s)
+          → (t : ItemTag) × (count ≡ action-count t) × (good (record { item = form.item-spelt t s; bytes = 3 + action-count t }) ≡ read-item at least s)
       unfolding read-item
       item-read h k =
           let t = tag-some at s count e n in
@@ -82,7 +82,7 @@ module _ (at least : ℕ) (s : List ℕ) where
           → good (record { item = one (getD s 3 0); bytes = 4 }) ≡ read-item at least s
       item-one h k z = let r = item-read h k in go (r .0) (r .1) (r .2)
         where
-          go : (t : ItemTag) → count ≡ action-count t → good (record { item = form.item-of t s; bytes = 3 + action-count t }) ≡ read-item at least s
+          go : (t : ItemTag) → count ≡ action-count t → good (record { item = form.item-spelt t s; bytes = 3 + action-count t }) ≡ read-item at least s
               → good (record { item = one (getD s 3 0); bytes = 4 }) ≡ read-item at least s
           go one-tag c r = r
           go two-tag c r = absurd (omega arith)
@@ -91,7 +91,7 @@ module _ (at least : ℕ) (s : List ℕ) where
           → good (record { item = item-of (getD s 3 0) (getD s 4 0); bytes = 5 }) ≡ read-item at least s
       item-two h k z b = let r = item-read h k in go (r .0) (r .1) (r .2)
         where
-          go : (t : ItemTag) → count ≡ action-count t → good (record { item = form.item-of t s; bytes = 3 + action-count t }) ≡ read-item at least s
+          go : (t : ItemTag) → count ≡ action-count t → good (record { item = form.item-spelt t s; bytes = 3 + action-count t }) ≡ read-item at least s
               → good (record { item = item-of (getD s 3 0) (getD s 4 0); bytes = 5 }) ≡ read-item at least s
           go one-tag c r = absurd (z c)
           go two-tag c r = rw (ne-eqb (getD s 4 0) 65535 (λ e. absurd (omega arith))) r

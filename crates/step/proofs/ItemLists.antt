@@ -15,7 +15,7 @@ use mathlib.Core.Bool.{Bool, true, false, cond}
 use Rattle.algebra.specs.Item.{Item, one, two, first}
 use Rattle.net.specs.Tables.{none, item-of}
 use Rattle.step.specs.Form.{ItemRead, StepRead, read-item, read-items}
-use Rattle.step.specs.FormSays.{paired, items-in, item-says, item-number, ItemFits}
+use Rattle.step.specs.inner.FormSays.{paired, items-in, item-says, item-number, ItemFits}
 use Rattle.step.specs.declared.form.ItemAnswer.{ItemAnswer}
 use Rattle.step.specs.declared.form.ItemAnswer.the-variants as item-answer
 

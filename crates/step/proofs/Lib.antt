@@ -16,3 +16,4 @@ pub mod EnabledTurns
 pub mod Checked
 pub mod EnabledCall
 pub mod Determined
+pub mod CountedPart

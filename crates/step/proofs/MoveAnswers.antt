@@ -1,5 +1,5 @@
 -- The answers of `move_tokens`, each with the marking that goes with it: where it refuses, the marking is restored.
--- Each is what `moves` gives after the tests so far; a test of all items is the test of their places joined.
+-- Each is what `moves` gives after the tests so far; a test of all items is the test of their places in-one.
 use Prim.Native.Nat.{ℕ, _≤_, _<_}
 use mathlib.Core.Path.{_≡_, refl, sym, ap, subst, _∙_}
 use mathlib.Core.List.{List, map}
@@ -8,8 +8,9 @@ use lib.ListN.{length, length-map}
 use lib.Dec.{leb}
 use borrow.Author.Tests.{le-leb, lt-leb}
 use Rattle.field.specs.Answer.{Answer, good, refused, _>>=_, _>>_, check}
-use Rattle.step.specs.Moving.{side-of, sides, AllFit, hold, holds-each, filled, shifts-each, joined, passed, moves}
-use Rattle.step.specs.Says.{Moves, fired-says, told, kept}
+use Rattle.step.specs.inner.Moving.{side-of, sides, AllFit, hold, holds-each, filled, shifts-each, in-one, passed, moves}
+use Rattle.step.specs.Says.{fired-says}
+use Rattle.step.specs.inner.Moves.{Moves, told, kept}
 use Rattle.step.specs.declared.Fired.{Fired}
 use Rattle.step.specs.declared.Fired.the-variants.{Done, Refused}
 use Rattle.step.proofs.MoveTurns.{Agree}
@@ -44,44 +45,44 @@ module _ (rows arcs m ts : List ℕ) where
     input-empty h = moves-refused 32 empty m m (moves m ins outs) (rw (not-passed false empty _ e₁ h, ← e₁)) refl
 
     module _ (h₁ : length ts ≤ empty) (shared : ℕ) (w : List ℕ) (e₂ : shared ≡ shifts-each 1 0 m ins) where
-      ones : hold 1 m (joined ins) ≡ true
+      ones : hold 1 m (in-one ins) ≡ true
       ones = sym (holds-all 1 m ins) ∙ all-passed false empty _ e₁ h₁
 
-      pub input-shared : shared < length ts → length w ≡ length m → Agree (joined ins) m w → (w′ : List ℕ) → w′ ≡ filled 1 w (joined ins)
+      pub input-shared : shared < length ts → length w ≡ length m → Agree (in-one ins) m w → (w′ : List ℕ) → w′ ≡ filled 1 w (in-one ins)
           → Moves (Refused 33 shared) m w′ (moves m ins outs)
       unfolding moves
       input-shared h l a w′ f =
           moves-refused 33 shared m w′ (moves m ins outs) (rw (all-passed false empty _ e₁ h₁, not-passed false shared _ e₂ h, ← e₂))
-          (f ∙ restored 1 m w (joined ins) l a ones)
+          (f ∙ restored 1 m w (in-one ins) l a ones)
 
-      module _ (h₂ : length ts ≤ shared) (f₂ : w ≡ filled 0 m (joined ins)) (full : ℕ) (e₃ : full ≡ holds-each 0 w outs) where
-        back : filled 1 w (joined ins) ≡ m
-        back = restored 1 m w (joined ins) (ap length f₂ ∙ filled-length 0 m (joined ins)) (λ q z. ap (λ (x : List ℕ). lib.ListN.getD x q 0) f₂ ∙ filled-agrees 0 m (joined ins) q z) ones
+      module _ (h₂ : length ts ≤ shared) (f₂ : w ≡ filled 0 m (in-one ins)) (full : ℕ) (e₃ : full ≡ holds-each 0 w outs) where
+        back : filled 1 w (in-one ins) ≡ m
+        back = restored 1 m w (in-one ins) (ap length f₂ ∙ filled-length 0 m (in-one ins)) (λ q z. ap (λ (x : List ℕ). lib.ListN.getD x q 0) f₂ ∙ filled-agrees 0 m (in-one ins) q z) ones
 
-        full-is : full ≡ holds-each 0 (filled 0 m (joined ins)) outs
+        full-is : full ≡ holds-each 0 (filled 0 m (in-one ins)) outs
         full-is = e₃ ∙ ap (λ (x : List ℕ). holds-each 0 x outs) f₂
 
-        pub output-full : full < length ts → (w′ : List ℕ) → w′ ≡ filled 1 w (joined ins) → Moves (Refused 36 0) m w′ (moves m ins outs)
+        pub output-full : full < length ts → (w′ : List ℕ) → w′ ≡ filled 1 w (in-one ins) → Moves (Refused 36 0) m w′ (moves m ins outs)
         unfolding moves
         output-full h w′ f =
             moves-refused 36 0 m w′ (moves m ins outs) (rw (all-passed false empty _ e₁ h₁, all-passed false shared _ e₂ h₂, not-passed true full _ full-is h)) (f ∙ back)
 
         module _ (h₃ : length ts ≤ full) (twice : ℕ) (e₄ : twice ≡ shifts-each 0 1 w outs) where
-          twice-is : twice ≡ shifts-each 0 1 (filled 0 m (joined ins)) outs
+          twice-is : twice ≡ shifts-each 0 1 (filled 0 m (in-one ins)) outs
           twice-is = e₄ ∙ ap (λ (x : List ℕ). shifts-each 0 1 x outs) f₂
 
-          zeros : hold 0 w (joined outs) ≡ true
+          zeros : hold 0 w (in-one outs) ≡ true
           zeros = sym (holds-all 0 w outs) ∙ all-passed true full _ e₃ h₃
 
-          pub output-twice : twice < length ts → (x x′ x″ : List ℕ) → length x ≡ length w → Agree (joined outs) w x → x′ ≡ filled 0 x (joined outs) → x″ ≡ filled 1 x′ (joined ins)
+          pub output-twice : twice < length ts → (x x′ x″ : List ℕ) → length x ≡ length w → Agree (in-one outs) w x → x′ ≡ filled 0 x (in-one outs) → x″ ≡ filled 1 x′ (in-one ins)
               → Moves (Refused 36 0) m x″ (moves m ins outs)
           unfolding moves
           output-twice h x x′ x″ l a f g =
               moves-refused 36 0 m x″ (moves m ins outs)
               (rw (all-passed false empty _ e₁ h₁, all-passed false shared _ e₂ h₂, all-passed true full _ full-is h₃, not-passed true twice _ twice-is h))
-              (g ∙ ap (λ (y : List ℕ). filled 1 y (joined ins)) (f ∙ restored 0 w x (joined outs) l a zeros) ∙ back)
+              (g ∙ ap (λ (y : List ℕ). filled 1 y (in-one ins)) (f ∙ restored 0 w x (in-one outs) l a zeros) ∙ back)
 
-          pub moved-on : length ts ≤ twice → (x : List ℕ) → x ≡ filled 1 w (joined outs) → Moves Done m x (moves m ins outs)
+          pub moved-on : length ts ≤ twice → (x : List ℕ) → x ≡ filled 1 w (in-one outs) → Moves Done m x (moves m ins outs)
           unfolding moves
           moved-on h x f =
               moves-done m x (moves m ins outs)

@@ -13,8 +13,8 @@ use lib.Dec.{eqb, leb}
 use Rattle.field.specs.Lists.{all}
 use Rattle.algebra.specs.Firing.{count}
 use Rattle.algebra.proofs.Enough.{count-here, count-cons, count-append}
-use Rattle.net.specs.Chains.{in-row}
-use Rattle.step.specs.Moving.{side-of, sides, Below, Fits, AllFit, hold, holds-each, filled, shifts, shifts-each, joined}
+use Rattle.net.specs.inner.Chains.{in-row}
+use Rattle.step.specs.inner.Moving.{side-of, sides, Below, Fits, AllFit, hold, holds-each, filled, shifts, shifts-each, in-one}
 
 pub list-next : (l : List ℕ) (i p : ℕ) → i < length l → p ≡ getD l i 0 → drop i l ≡ p ∷ drop (i + 1) l
 list-next l i p h e = rw (add-one, drop-cons l i 0, e)
@@ -80,12 +80,12 @@ filled-append tokens m [] b = refl
 filled-append tokens m (p ∷ a) b = filled-append tokens (set m p tokens) a b
 
 -- the places of one item are among those of all
-item-inside : (out : Bool) (rows arcs : List ℕ) (q : ℕ) (ts : List ℕ) (i : ℕ) → i < length ts → count q (side-of out rows arcs (getD ts i 0)) ≤ count q (joined (sides out rows arcs ts))
-unfolding joined
+item-inside : (out : Bool) (rows arcs : List ℕ) (q : ℕ) (ts : List ℕ) (i : ℕ) → i < length ts → count q (side-of out rows arcs (getD ts i 0)) ≤ count q (in-one (sides out rows arcs ts))
+unfolding in-one
 item-inside out rows arcs q [] i h = absurd (omega arith)
-item-inside out rows arcs q (t ∷ ts) zero h = omega (arith, count-append q (side-of out rows arcs t) (joined (sides out rows arcs ts)))
+item-inside out rows arcs q (t ∷ ts) zero h = omega (arith, count-append q (side-of out rows arcs t) (in-one (sides out rows arcs ts)))
 item-inside out rows arcs q (t ∷ ts) (suc i) h =
-    omega (arith, item-inside out rows arcs q ts i (omega arith), count-append q (side-of out rows arcs t) (joined (sides out rows arcs ts)))
+    omega (arith, item-inside out rows arcs q ts i (omega arith), count-append q (side-of out rows arcs t) (in-one (sides out rows arcs ts)))
 
 -- over a step's items: the loop stands at item i, transition t, whose places are l
 module _ (rows arcs ts : List ℕ) (out : Bool) (i t : ℕ) (h : i < length ts) (e : t ≡ getD ts i 0) where
@@ -118,14 +118,14 @@ module _ (rows arcs ts : List ℕ) (out : Bool) (i t : ℕ) (h : i < length ts) 
       unfolding shifts-each
       shifting-no b = sym (inv ∙ rw (sides-next, b, add-zero i))
 
-    pub filling-turn : (tokens : ℕ) (m : List ℕ) → filled tokens m (joined (sides out rows arcs (drop i ts))) ≡ filled tokens (filled tokens m l) (joined (sides out rows arcs (drop (i + 1) ts)))
-    unfolding joined
-    filling-turn tokens m = rw sides-next (filled-append tokens m l (joined (sides out rows arcs (drop (i + 1) ts))))
+    pub filling-turn : (tokens : ℕ) (m : List ℕ) → filled tokens m (in-one (sides out rows arcs (drop i ts))) ≡ filled tokens (filled tokens m l) (in-one (sides out rows arcs (drop (i + 1) ts)))
+    unfolding in-one
+    filling-turn tokens m = rw sides-next (filled-append tokens m l (in-one (sides out rows arcs (drop (i + 1) ts))))
 
-    pub agree-turn : (m m′ m″ : List ℕ) → Agree (joined (sides out rows arcs ts)) m m′ → Agree l m′ m″ → Agree (joined (sides out rows arcs ts)) m m″
+    pub agree-turn : (m m′ m″ : List ℕ) → Agree (in-one (sides out rows arcs ts)) m m′ → Agree l m′ m″ → Agree (in-one (sides out rows arcs ts)) m m″
     agree-turn m m′ m″ a b q z =
-        b q (let k : count q l ≤ count q (joined (sides out rows arcs ts))
-        = subst (λ (u : List ℕ). count q u ≤ count q (joined (sides out rows arcs ts))) (sym (s ∙ ap (side-of out rows arcs) e)) (item-inside out rows arcs q ts i h) in omega arith)
+        b q (let k : count q l ≤ count q (in-one (sides out rows arcs ts))
+        = subst (λ (u : List ℕ). count q u ≤ count q (in-one (sides out rows arcs ts))) (sym (s ∙ ap (side-of out rows arcs) e)) (item-inside out rows arcs q ts i h) in omega arith)
         ∙ a q z
 
 module _ (rows arcs ts : List ℕ) (out : Bool) (i : ℕ) (h : length ts ≤ i) where
@@ -137,6 +137,6 @@ module _ (rows arcs ts : List ℕ) (out : Bool) (i : ℕ) (h : length ts ≤ i) 
   unfolding shifts-each
   shifting-end from to m n inv = sym (inv ∙ rw (drop-of-length-le ts h, add-zero i))
 
-  pub filling-end : (tokens : ℕ) (m : List ℕ) → filled tokens m (joined (sides out rows arcs (drop i ts))) ≡ m
-  unfolding joined filled
+  pub filling-end : (tokens : ℕ) (m : List ℕ) → filled tokens m (in-one (sides out rows arcs (drop i ts))) ≡ m
+  unfolding in-one filled
   filling-end tokens m = rw (drop-of-length-le ts h)

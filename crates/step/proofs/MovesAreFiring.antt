@@ -21,7 +21,7 @@ use Rattle.algebra.specs.Firing.{marked, check-marked, count, check-apart, inpu
 use Rattle.algebra.proofs.Enough.{count-here, count-other, count-append}
 use Rattle.algebra.proofs.Fires.{moved-length, moved-at}
 use Rattle.net.specs.Check.{rising, lists-rise}
-use Rattle.step.specs.Moving.{hold, holds-each, filled, shifts, shifts-each, joined, passed, moves}
+use Rattle.step.specs.inner.Moving.{hold, holds-each, filled, shifts, shifts-each, in-one, passed, moves}
 use Rattle.step.proofs.Bools.{never, test}
 use Rattle.step.proofs.Filled.{zero-or-more, filled-length, filled-other, filled-here, hold-at, holds-all, shifts-all}
 use Rattle.step.proofs.MoveTurns.{filled-append}
@@ -99,13 +99,13 @@ rising-lists places t h =
     let c = and-parts (leb 1 (length (t .outputs))) _ (b .1) in
     (T-true _ (b .0), T-true _ (c .1))
 
-pub apart-each : (places : ℕ) (m taken : List ℕ) (at : ℕ) (ts : List Transition) → Rising places ts → hold 1 m (joined (ins-of ts)) ≡ true
+pub apart-each : (places : ℕ) (m taken : List ℕ) (at : ℕ) (ts : List Transition) → Rising places ts → hold 1 m (in-one (ins-of ts)) ≡ true
     → check-apart taken at ts ≡ check (passed (ins-of ts) (shifts-each 1 0 (filled 0 m taken) (ins-of ts))) input-shared (at + shifts-each 1 0 (filled 0 m taken) (ins-of ts))
-unfolding check-apart shifts-each joined all
+unfolding check-apart shifts-each in-one all
 apart-each places m taken at [] r h = refl
 apart-each places m taken at (t ∷ ts) r h =
     let a = and-parts (lists-rise places t) (all (lists-rise places) ts) r in
-    let hs = Rattle.field.proofs.Alls.all-split (λ p. eqb (getD m p 0) 1) (t .inputs) (joined (ins-of ts)) (true-T _ h) in
+    let hs = Rattle.field.proofs.Alls.all-split (λ p. eqb (getD m p 0) 1) (t .inputs) (in-one (ins-of ts)) (true-T _ h) in
     let now : shifts 1 0 (filled 0 m taken) (t .inputs) ≡ all (λ p. eqb (count p taken) 0) (t .inputs)
     = rising-apart places 0 (filled 0 m taken) taken (t .inputs) (rising-lists places t (a .0) .0)
     (λ q k c. still-there m taken q (hold-at 1 m (t .inputs) q (T-true _ (hs .0)) c)) in

@@ -14,8 +14,9 @@ use Rattle.algebra.specs.Net.{Transition}
 use Rattle.net.specs.Tables.{Tables, number, transition-at, transitions-from, transitions-in}
 use Rattle.net.specs.Check.{counts-fit, tables-reach, kinds-ordered, lists-rise, starts-meet, codes-fit, pairs-differ, is-net}
 use Rattle.net.specs.Lent.{lent}
-use Rattle.net.specs.Chains.{in-row}
-use Rattle.step.specs.Naming.{rows-and-arcs, transitions-within, InOrder}
+use Rattle.net.specs.inner.Chains.{in-row}
+use Rattle.net.proofs.RowsPass.{starts-within}
+use Rattle.step.specs.inner.Naming.{rows-and-arcs, transitions-within, InOrder}
 use Rattle.step.proofs.Bools.{test}
 
 same-from : (tables : Tables) (t n : ℕ) → transitions-from tables t n ≡ transitions-from (rows-and-arcs (tables .rows) (tables .arcs)) t n
@@ -28,14 +29,6 @@ pub transitions-lent : (tables : Tables) → transitions-in tables ≡ transitio
 unfolding transitions-in
 transitions-lent tables = same-from tables 0 (tables .transitions)
 
--- no list starts behind the arc count
-starts-end : (tables : Tables) (start t n : ℕ) → T (starts-meet tables start t n) → start ≤ tables .arc-count
-unfolding starts-meet
-starts-end tables start t zero h = let e : start ≡ tables .arc-count = eqb→eq start (tables .arc-count) h in omega arith
-starts-end tables start t (suc n) h =
-    let a = and-parts (eqb (number tables t 3) start) _ h in
-    omega (arith, starts-end tables (start + (number tables t 4 + number tables t 5)) (suc t) n (a .1))
-
 ends-at : (tables : Tables) (start t n k : ℕ) → T (starts-meet tables start t n) → t ≤ k → k < t + n
     → number tables k 3 + (number tables k 4 + number tables k 5) ≤ tables .arc-count
 unfolding starts-meet
@@ -45,7 +38,7 @@ ends-at tables start t (suc n) k h a b =
     test (eqb t k)
     (λ e.
     subst (λ (x : ℕ). number tables x 3 + (number tables x 4 + number tables x 5) ≤ tables .arc-count) (eqb-true t k e)
-    (omega (arith, eqb→eq (number tables t 3) start (p .0), starts-end tables (start + (number tables t 4 + number tables t 5)) (suc t) n (p .1))))
+    (omega (arith, eqb→eq (number tables t 3) start (p .0), starts-within tables (start + (number tables t 4 + number tables t 5)) (suc t) n (p .1))))
     (λ e. ends-at tables (start + (number tables t 4 + number tables t 5)) (suc t) n k (p .1) (next t k a (eqb-false t k e)) (omega arith))
   where
     next : (t k : ℕ) → t ≤ k → (t ≡ k → ⊥) → suc t ≤ k

@@ -14,9 +14,9 @@ use Rattle.field.proofs.Tests.{and-parts, parts-and, T-true, true-T}
 use Rattle.algebra.specs.Net.{Transition}
 use Rattle.net.specs.Tables.{transition-at, transitions-from}
 use Rattle.net.specs.Check.{rising, lists-rise}
-use Rattle.net.specs.Chains.{in-row}
-use Rattle.step.specs.Moving.{side-of, sides, Below, Fits, AllFit}
-use Rattle.step.specs.Naming.{rows-and-arcs, transition-in, transitions-within, InOrder}
+use Rattle.net.specs.inner.Chains.{in-row}
+use Rattle.step.specs.inner.Moving.{side-of, sides, Below, Fits, AllFit}
+use Rattle.step.specs.inner.Naming.{rows-and-arcs, transition-in, transitions-within, InOrder}
 use Rattle.step.proofs.Bools.{test}
 use Rattle.step.proofs.MovesAreFiring.{ins-of, outs-of, Rising, rising-lists}
 

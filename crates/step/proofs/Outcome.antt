@@ -21,7 +21,7 @@ use Rattle.algebra.specs.Firing.{check-marked, count, check-apart, inputs-at, o
 use Rattle.algebra.proofs.Enough.{count-here, count-other, count-cons, count-append, member-count}
 use Rattle.algebra.proofs.Fires.{moved-length, moved-at}
 use Rattle.net.specs.Check.{rising, lists-rise}
-use Rattle.step.specs.Moving.{hold, holds-each, filled, shifts, shifts-each, joined, passed, moves}
+use Rattle.step.specs.inner.Moving.{hold, holds-each, filled, shifts, shifts-each, in-one, passed, moves}
 use Rattle.step.proofs.Bools.{never, test}
 use Rattle.step.proofs.Filled.{zero-or-more, filled-length, filled-other, filled-here, holds-all, shifts-all}
 use Rattle.step.proofs.MovesAreFiring.{ins-of, outs-of, Safe, Rising, rising-lists, marked-each, apart-each}
@@ -52,25 +52,25 @@ rising-inside places least (p ∷ ps) r q h =
     (λ e. subst (λ (n : ℕ). n < places) (eqb-true p q e) (ltb→lt p places (b .0)))
     (λ e. rising-inside places (suc p) ps (T-true _ (b .1)) q (rw e at h))
 
-outs-inside : (places : ℕ) (ts : List Transition) → Rising places ts → Inside places (joined (outs-of ts))
-unfolding joined all count
+outs-inside : (places : ℕ) (ts : List Transition) → Rising places ts → Inside places (in-one (outs-of ts))
+unfolding in-one all count
 outs-inside places [] r q h = absurd (omega arith)
 outs-inside places (t ∷ ts) r q h =
     let a = and-parts (lists-rise places t) (all (lists-rise places) ts) r in
     ⊎-elim
-    (λ z. outs-inside places ts (a .1) q (omega (arith, count-append q (t .outputs) (joined (outs-of ts)))))
+    (λ z. outs-inside places ts (a .1) q (omega (arith, count-append q (t .outputs) (in-one (outs-of ts)))))
     (λ k. rising-inside places 0 (t .outputs) (rising-lists places t (a .0) .1) q k)
     (zero-or-more (count q (t .outputs)))
 
-ins-count : (q : ℕ) (ts : List Transition) → count q (joined (ins-of ts)) ≡ inputs-at q ts
-unfolding joined inputs-at count
+ins-count : (q : ℕ) (ts : List Transition) → count q (in-one (ins-of ts)) ≡ inputs-at q ts
+unfolding in-one inputs-at count
 ins-count q [] = refl
-ins-count q (t ∷ ts) = count-append q (t .inputs) (joined (ins-of ts)) ∙ ap (λ (n : ℕ). count q (t .inputs) + n) (ins-count q ts)
+ins-count q (t ∷ ts) = count-append q (t .inputs) (in-one (ins-of ts)) ∙ ap (λ (n : ℕ). count q (t .inputs) + n) (ins-count q ts)
 
-outs-count : (q : ℕ) (ts : List Transition) → count q (joined (outs-of ts)) ≡ outputs-at q ts
-unfolding joined outputs-at count
+outs-count : (q : ℕ) (ts : List Transition) → count q (in-one (outs-of ts)) ≡ outputs-at q ts
+unfolding in-one outputs-at count
 outs-count q [] = refl
-outs-count q (t ∷ ts) = count-append q (t .outputs) (joined (outs-of ts)) ∙ ap (λ (n : ℕ). count q (t .outputs) + n) (outs-count q ts)
+outs-count q (t ∷ ts) = count-append q (t .outputs) (in-one (outs-of ts)) ∙ ap (λ (n : ℕ). count q (t .outputs) + n) (outs-count q ts)
 
 -- With the inputs taken a place holds what it held less what is taken from it.
 taken-at : (m ps : List ℕ) → Safe m → (q : ℕ) → getD (filled 0 m ps) q 0 ≡ getD m q 0 - count q ps
@@ -127,16 +127,16 @@ hold-of w ps h = T-true (hold 0 w ps) (all-of (λ p. eqb (getD w p 0) 0) ps (λ 
 module _ (m : List ℕ) (ts : List Transition) (safe : Safe m) (r : Rising (length m) ts) where
   -- the marking with the inputs taken, and the places that are given to
   abbrev bare : List ℕ
-  bare = filled 0 m (joined (ins-of ts))
+  bare = filled 0 m (in-one (ins-of ts))
 
   abbrev given : List ℕ
-  given = joined (outs-of ts)
+  given = in-one (outs-of ts)
 
   bare-at : (q : ℕ) → getD bare q 0 ≡ getD m q 0 - inputs-at q ts
-  bare-at q = taken-at m (joined (ins-of ts)) safe q ∙ ap (λ (n : ℕ). getD m q 0 - n) (ins-count q ts)
+  bare-at q = taken-at m (in-one (ins-of ts)) safe q ∙ ap (λ (n : ℕ). getD m q 0 - n) (ins-count q ts)
 
   given-inside : Inside (length bare) given
-  given-inside = subst (λ (n : ℕ). Inside n given) (sym (filled-length 0 m (joined (ins-of ts)))) (outs-inside (length m) ts r)
+  given-inside = subst (λ (n : ℕ). Inside n given) (sym (filled-length 0 m (in-one (ins-of ts)))) (outs-inside (length m) ts r)
 
   fits-at : all (λ x. leb x 1) (moved 0 ts m) ≡ true → (q : ℕ) → 1 ≤ count q given → getD bare q 0 + count q given ≤ 1
   fits-at e q k =
@@ -154,12 +154,12 @@ module _ (m : List ℕ) (ts : List Transition) (safe : Safe m) (r : Rising (leng
       moved-at ts m q h
       ∙ ⊎-elim
       (λ z. omega (arith, filled-other 1 bare given q z, bare-at q, outs-count q ts))
-      (λ k. omega (arith, filled-here 1 bare given q k (omega (arith, filled-length 0 m (joined (ins-of ts)))), puts-counts bare given given-inside e q k, bare-at q, outs-count q ts))
+      (λ k. omega (arith, filled-here 1 bare given q k (omega (arith, filled-length 0 m (in-one (ins-of ts)))), puts-counts bare given given-inside e q k, bare-at q, outs-count q ts))
       (zero-or-more (count q given))
 
   put-moved : shifts 0 1 bare given ≡ true → filled 1 bare given ≡ moved 0 ts m
   put-moved e =
-      sym (ext-getD 0 (moved 0 ts m) (filled 1 bare given) (moved-length 0 ts m ∙ sym (filled-length 1 bare given ∙ filled-length 0 m (joined (ins-of ts))))
+      sym (ext-getD 0 (moved 0 ts m) (filled 1 bare given) (moved-length 0 ts m ∙ sym (filled-length 1 bare given ∙ filled-length 0 m (in-one (ins-of ts))))
       (λ q h. put-at e q (omega (arith, moved-length 0 ts m))))
 
   put-fits : shifts 0 1 bare given ≡ true → all (λ x. leb x 1) (moved 0 ts m) ≡ true

@@ -15,7 +15,7 @@ use Rattle.field.specs.Field.{tag-of, length-of, body-of}
 use Rattle.field.proofs.Answers.{bind-good, check-good, good-same}
 use Rattle.algebra.specs.Item.{Item}
 use Rattle.step.specs.Form.{StepRead, check-header, read-items, read-step, read-lent-step}
-use Rattle.step.specs.FormSays.{items-in, items-say, Bytes, ItemsFit, head-says, HeadFits, step-head, step-says, StepFits}
+use Rattle.step.specs.inner.FormSays.{items-in, items-say, Bytes, ItemsFit, head-says, HeadFits, step-head, step-says, StepFits}
 use Rattle.step.specs.declared.form.ItemsAnswer.{ItemsAnswer}
 use Rattle.step.specs.declared.form.ItemsAnswer.the-variants as items-answer
 use Rattle.step.specs.declared.form.HeadAnswer.{HeadAnswer}

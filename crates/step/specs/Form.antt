@@ -28,9 +28,9 @@ abbrev pub action-count : ItemTag → ℕ
 action-count one-tag = 1
 action-count two-tag = 2
 
-abbrev pub item-of : ItemTag → List ℕ → Item
-item-of one-tag s = one (getD s 3 0)
-item-of two-tag s = two (getD s 3 0) (getD s 4 0)
+abbrev pub item-spelt : ItemTag → List ℕ → Item
+item-spelt one-tag s = one (getD s 3 0)
+item-spelt two-tag s = two (getD s 3 0) (getD s 4 0)
 
 pub record ItemRead : Type 0 where
   pub item : Item
@@ -44,8 +44,8 @@ read-item at least s = do
   check-header at s
   t ← item-tag at (tag-of s)
   check (eqb (length-of s) (action-count t)) wrong-length at
-  check (leb least (first (item-of t s))) not-rising at
-  good (record { item = item-of t s; bytes = 3 + action-count t })
+  check (leb least (first (item-spelt t s))) not-rising at
+  good (record { item = item-spelt t s; bytes = 3 + action-count t })
 
 -- The items of a step's body. The second number is how many bytes of the item read last are still to be passed over.
 unfoldable pub read-items : ℕ → ℕ → ℕ → List ℕ → Answer (List Item)

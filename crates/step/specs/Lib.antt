@@ -1,7 +1,5 @@
 pub mod Form
 pub mod Fire
 pub mod Enabled
-pub mod FormSays
-pub mod Moving
 pub mod Says
-pub mod Naming
+pub mod inner

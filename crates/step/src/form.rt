@@ -4,7 +4,7 @@ ghost use mathlib.Core.Path.{_≡_};
 ghost use Prim.Native.Nat.{ℕ};
 ghost use lib.ListN.{length, replicate};
 ghost use Rattle.step.specs.Form.{read-item, read-items, read-step, read-lent-step};
-ghost use Rattle.step.specs.FormSays.{tag-count, item-says, ItemFits, item-number, items-say, ItemsFit, head-says, HeadFits, step-head, step-says, StepFits};
+ghost use Rattle.step.specs.inner.FormSays.{tag-count, item-says, ItemFits, item-number, items-say, ItemsFit, head-says, HeadFits, step-head, step-says, StepFits};
 
 // What stands for the second action of an item that has one action only.
 const NO_SECOND: u16 = field::NO_SECOND as u16;
@@ -169,30 +169,6 @@ pub fn step_head(s: &[u8]) -> HeadAnswer
         return HeadAnswer::Refused(field::WRONG_LENGTH);
     }
     HeadAnswer::Body(len)
-}
-
-// The step at the front of what is left of a record, behind which more may follow.
-pub fn read_step(
-    s: &[u8],
-    firsts: &mut [u16; MOST_ITEMS],
-    seconds: &mut [u16; MOST_ITEMS],
-) -> StepAnswer
-    ensures says { λ r. ⌜ ((at : ℕ) → step-says at r (now (firsts .exit)) (now (seconds .exit)) ≡ read-step at (now (s .entry))) ⌝ }
-    ensures fits { λ r. ⌜ StepFits (length (now (s .entry))) r (now (firsts .exit)) (now (seconds .exit)) ⌝ }
-{
-    match step_head(s) {
-        HeadAnswer::Refused(n) => StepAnswer::Refused(n),
-        HeadAnswer::Body(len) => {
-            let end = 3 + len;
-            match read_items(&s[3..end], firsts, seconds) {
-                ItemsAnswer::Refused(n) => StepAnswer::Refused(n),
-                ItemsAnswer::Items(count) => StepAnswer::Step {
-                    items: count,
-                    bytes: end,
-                },
-            }
-        }
-    }
 }
 
 // The one step field that firing is lent: bytes behind it are refused before its items are read.

@@ -7,8 +7,8 @@ ghost use lib.Seq.{sets};
 ghost use lib.Dec.{leb};
 ghost use Rattle.field.specs.Lists.{all};
 ghost use Rattle.algebra.specs.Firing.{marked, enabled-from};
-ghost use Rattle.step.specs.Moving.{Fits};
-ghost use Rattle.step.specs.Naming.{transition-in, transitions-within, InOrder};
+ghost use Rattle.step.specs.inner.Moving.{Fits};
+ghost use Rattle.step.specs.inner.Naming.{transition-in, transitions-within, InOrder};
 use crate::moving;
 
 // All input places of transition t are marked.

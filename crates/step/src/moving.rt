@@ -6,9 +6,9 @@ ghost use mathlib.Core.Bool.{Bool, true, false};
 ghost use Prim.Native.Nat.{ℕ, _+_, _*_, _<_, _≤_};
 ghost use lib.ListN.{length, getD};
 ghost use Rattle.algebra.specs.Firing.{count};
-ghost use Rattle.net.specs.Chains.{in-row};
-ghost use Rattle.step.specs.Moving.{side-of, sides, Below, Fits, AllFit, hold, holds-each, filled, shifts, shifts-each, joined, moves};
-ghost use Rattle.step.specs.Says.{Moves};
+ghost use Rattle.net.specs.inner.Chains.{in-row};
+ghost use Rattle.step.specs.inner.Moving.{side-of, sides, Below, Fits, AllFit, hold, holds-each, filled, shifts, shifts-each, in-one, moves};
+ghost use Rattle.step.specs.inner.Moves.{Moves};
 use crate::Fired;
 
 // The two sides of a transition: the places that it consumes from, and those that it produces into.
@@ -114,7 +114,7 @@ fn items_holding(
 // So many tokens at each place on one side of the items.
 fn fill_items(rows: &[u16], arcs: &[u16], marking: &mut [u8], ts: &[u16], out: bool, tokens: u8)
     requires { ⌜ AllFit (now rows) (now arcs) (length (now marking)) (now ts) ⌝ }
-    ensures { λ _. ⌜ now (marking .exit) ≡ filled tokens (now (marking .entry)) (joined (sides out (now (rows .entry)) (now (arcs .entry)) (now (ts .entry)))) ⌝ }
+    ensures { λ _. ⌜ now (marking .exit) ≡ filled tokens (now (marking .entry)) (in-one (sides out (now (rows .entry)) (now (arcs .entry)) (now (ts .entry)))) ⌝ }
 {
     let mut i = 0;
     while i < ts.len() {
@@ -136,8 +136,8 @@ fn shift_items(
 ) -> usize
     requires { ⌜ AllFit (now rows) (now arcs) (length (now marking)) (now ts) ⌝ }
     ensures { λ r. ⌜ r ≡ shifts-each from to (now (marking .entry)) (sides out (now (rows .entry)) (now (arcs .entry)) (now (ts .entry))) ⌝ }
-    ensures { λ r. ⌜ (length (now (ts .entry)) ≤ r → now (marking .exit) ≡ filled to (now (marking .entry)) (joined (sides out (now (rows .entry)) (now (arcs .entry)) (now (ts .entry))))) ⌝ }
-    ensures { λ r. ⌜ ((q : ℕ) → count q (joined (sides out (now (rows .entry)) (now (arcs .entry)) (now (ts .entry)))) ≡ 0 → getD (now (marking .exit)) q 0 ≡ getD (now (marking .entry)) q 0) ⌝ }
+    ensures { λ r. ⌜ (length (now (ts .entry)) ≤ r → now (marking .exit) ≡ filled to (now (marking .entry)) (in-one (sides out (now (rows .entry)) (now (arcs .entry)) (now (ts .entry))))) ⌝ }
+    ensures { λ r. ⌜ ((q : ℕ) → count q (in-one (sides out (now (rows .entry)) (now (arcs .entry)) (now (ts .entry)))) ≡ 0 → getD (now (marking .exit)) q 0 ≡ getD (now (marking .entry)) q 0) ⌝ }
 {
     let mut i = 0;
     while i < ts.len() {

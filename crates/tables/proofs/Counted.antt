@@ -13,13 +13,13 @@ use Rattle.algebra.specs.Arcs.{by-item, net-of}
 use Rattle.algebra.proofs.EveryStepHasAnInput.{InRange, items-in-range}
 use Rattle.algebra.proofs.JoinedApart.{joined-inputs, joined-outputs}
 use Rattle.net.specs.Tables.{item-of, arcs-of}
-use Rattle.boxes.specs.ArcCounts.{item-arcs, listed-arcs, action-arcs}
+use Rattle.boxes.specs.inner.ArcCounts.{item-arcs, listed-arcs, action-arcs}
 use Rattle.boxes.proofs.ArcsCounted.{arcs-counted, listed-arcs-same}
-use Rattle.arcs.specs.Moves.{passes}
+use Rattle.arcs.specs.inner.Moves.{passes}
 use Rattle.arcs.specs.declared.sides.Side.{Side}
 use Rattle.arcs.specs.declared.sides.Side.the-variants.{Inputs, Outputs}
 use Rattle.arcs.proofs.Transitions.{numbers-few}
-use Rattle.tables.specs.Rows.{item-at, listed-at, listed-from, told-count, told-arcs, item-places, Below, Drafted, Whole}
+use Rattle.tables.specs.inner.Rows.{item-at, listed-at, listed-from, told-count, told-arcs, item-places, Below, Drafted, Whole}
 
 -- The arcs of an item are those of its two sides.
 pub both-sides : (index : List ℕ) (item : Item) → item-arcs (told-arcs index) item ≡ item-arcs (told-count index Inputs) item + item-arcs (told-count index Outputs) item

@@ -16,9 +16,9 @@ use Rattle.algebra.specs.Places.{places}
 use Rattle.algebra.specs.Transitions.{transitions}
 use Rattle.algebra.specs.Arcs.{transition-of, net-of}
 use Rattle.net.specs.Tables.{none, second, item-of, rows-from, arcs-from, rows-of, arcs-of}
-use Rattle.boxes.specs.ArcCounts.{item-arcs}
+use Rattle.boxes.specs.inner.ArcCounts.{item-arcs}
 use Rattle.arcs.specs.declared.sides.Side.the-variants.{Inputs, Outputs}
-use Rattle.tables.specs.Rows.{item-at, listed-at, listed-from, told-count, told-arcs, Drafted, Whole, Asked, PlacedBoth, Room, Put}
+use Rattle.tables.specs.inner.Rows.{item-at, listed-at, listed-from, told-count, told-arcs, Drafted, Whole, Asked, PlacedBoth, Room, Put}
 use Rattle.tables.proofs.Counted.{both-sides, side-told, its-actions, item-told, item-few, arcs-told, listed-next, listed-none, Counts, none-counted, one-counted, next-counted}
 use Rattle.tables.proofs.Runs.{sets-both}
 

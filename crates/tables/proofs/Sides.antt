@@ -12,20 +12,20 @@ use Rattle.algebra.specs.Expr.{Expr, actions}
 use Rattle.algebra.specs.Item.{Item, one, two}
 use Rattle.algebra.specs.Places.{Place, places}
 use Rattle.algebra.specs.Arcs.{numbers}
-use Rattle.boxes.specs.ArcCounts.{item-arcs}
+use Rattle.boxes.specs.inner.ArcCounts.{item-arcs}
 use Rattle.boxes.proofs.ArcsRise.{numbers-rise}
-use Rattle.arcs.specs.Merge.{union, Merged}
-use Rattle.arcs.specs.Moves.{passes}
+use Rattle.arcs.specs.inner.Merge.{union, Merged}
+use Rattle.arcs.specs.inner.Moves.{passes}
 use Rattle.arcs.specs.declared.sides.Side.{Side}
 use Rattle.arcs.specs.declared.sides.Side.the-variants.{Inputs, Outputs}
 use Rattle.arcs.proofs.Merges as merges
 use Rattle.arcs.proofs.Merges.{union-numbers, part-is}
 use Rattle.arcs.proofs.Ones.{numbers-ones, ones-below}
-use Rattle.arcs.specs.Spreads.{Spread, placed}
-use Rattle.spread.specs.Lists.{list-row, place-of, Means}
-use Rattle.spread.specs.Placing.{Small}
-use Rattle.spread.specs.Spread.{Listed}
-use Rattle.tables.specs.Rows.{told-count, item-places, Below, Placed, PlacedPair, PlacedBoth, InOrder, Drafted}
+use Rattle.arcs.specs.inner.Spreads.{Spread, placed}
+use Rattle.spread.specs.inner.Lists.{list-row, place-of, Means}
+use Rattle.spread.specs.inner.Placing.{Small}
+use Rattle.spread.specs.inner.Spread.{Listed}
+use Rattle.tables.specs.inner.Rows.{told-count, item-places, Below, Placed, PlacedPair, PlacedBoth, InOrder, Drafted}
 use Rattle.tables.proofs.Counted.{told-one}
 use Rattle.tables.proofs.Unions.{union-in-order, merged-all}
 

@@ -11,15 +11,15 @@ use lib.Seq.{drop-cons}
 use lib.Dec.{ltb}
 use Rattle.algebra.specs.Expr.{Expr, actions}
 use Rattle.algebra.specs.Item.{Item, one, two, first}
-use Rattle.boxes.specs.ArcCounts.{item-arcs}
-use Rattle.arcs.specs.Merge.{into, union}
-use Rattle.arcs.specs.Positions.{stretched}
-use Rattle.arcs.specs.Spreads.{Spread, placed}
+use Rattle.boxes.specs.inner.ArcCounts.{item-arcs}
+use Rattle.arcs.specs.inner.Merge.{into, union}
+use Rattle.arcs.specs.inner.Positions.{stretched}
+use Rattle.arcs.specs.inner.Spreads.{Spread, placed}
 use Rattle.arcs.specs.declared.sides.Side.{Side}
 use Rattle.arcs.proofs.Positions.{stretched-length, stretched-at}
-use Rattle.spread.specs.Lists.{list-row, place-of, Means}
+use Rattle.spread.specs.inner.Lists.{list-row, place-of, Means}
 use Rattle.spread.proofs.Chains.{copied-longer, copied-first}
-use Rattle.tables.specs.Rows.{told-count, item-places, Placed, Drafted}
+use Rattle.tables.specs.inner.Rows.{told-count, item-places, Placed, Drafted}
 use Rattle.tables.proofs.Counted.{told-one}
 use Rattle.tables.proofs.Runs.{all-set}
 use Rattle.tables.proofs.Sides.{both-are}

@@ -11,8 +11,8 @@ use lib.Dec.{T, leb, ltb, leb→le}
 use borrow.Author.Tests.{lt-ltb}
 use Rattle.field.proofs.Tests.{and-parts}
 use Rattle.net.specs.Check.{rising}
-use Rattle.arcs.specs.Merge.{into, union, Below, Merged}
-use Rattle.tables.specs.Rows.{InOrder}
+use Rattle.arcs.specs.inner.Merge.{into, union, Below, Merged}
+use Rattle.tables.specs.inner.Rows.{InOrder}
 use Rattle.tables.proofs.Runs.{all-set}
 
 -- ---- as they stand

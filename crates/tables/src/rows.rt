@@ -19,10 +19,10 @@ ghost use Rattle.algebra.specs.Places.{places};
 ghost use Rattle.algebra.specs.Transitions.{transitions};
 ghost use Rattle.algebra.specs.Arcs.{transition-of, net-of};
 ghost use Rattle.net.specs.Tables.{item-of, rows-of, arcs-of};
-ghost use Rattle.boxes.specs.ArcCounts.{item-arcs, listed-arcs};
+ghost use Rattle.boxes.specs.inner.ArcCounts.{item-arcs, listed-arcs};
 ghost use Rattle.arcs.specs.declared.sides.Side.the-variants.{Inputs, Outputs};
-ghost use Rattle.spread.specs.Lists.{place-of};
-ghost use Rattle.tables.specs.Rows.{item-at, listed-at, listed-from, told-count, told-arcs, Drafted, Whole, Asked, Placed, PlacedBoth, PlacedPair, InOrder, Room, Put};
+ghost use Rattle.spread.specs.inner.Lists.{place-of};
+ghost use Rattle.tables.specs.inner.Rows.{item-at, listed-at, listed-from, told-count, told-arcs, Drafted, Whole, Asked, Placed, PlacedBoth, PlacedPair, InOrder, Room, Put};
 
 // How many places an action has on one side.
 fn count_of(index: &[u16], side: Side, i: usize) -> usize

@@ -10,8 +10,8 @@ use lib.Seq.{sets-eq, take-at, getD-set-other, length-take-le}
 use Rattle.algebra.specs.Item.{first}
 use Rattle.algebra.specs.Transitions.{Labelled}
 use Rattle.plan.proofs.Stands.{stands-second, stands-at}
-use Rattle.transitions.specs.Numbers.{flat, second}
-use Rattle.transitions.specs.Listing.{Part, Stored}
+use Rattle.transitions.specs.inner.Numbers.{flat, second}
+use Rattle.transitions.specs.inner.Listing.{Part, Stored}
 
 pub flat-append : (ts us : List Labelled) → flat (ts ++ us) ≡ flat ts ++ flat us
 unfolding flat

@@ -8,8 +8,8 @@ use mathlib.Core.Bool.{Bool, true, false, cond}
 use mathlib.Core.List.{List, [], _∷_, _++_}
 use lib.ListN.{length, getD, drop, length-append, drop-of-length-le}
 use lib.Seq.{drop-cons, getD-take}
-use Rattle.transitions.specs.Numbers.{most}
-use Rattle.transitions.specs.Listing.{Stored, Found, Held, pairs, pairs-with, pairs-of, joined-pair}
+use Rattle.transitions.specs.inner.Numbers.{most}
+use Rattle.transitions.specs.inner.Listing.{Stored, Found, Held, pairs, pairs-with, pairs-of, joined-pair}
 use Rattle.transitions.proofs.StillToCome.{Left, all-held, one-stored, some-held}
 use Rattle.transitions.proofs.Weights.{pairs-with-all, pairs-of-all}
 

@@ -8,7 +8,7 @@ use Rattle.algebra.specs.Expr.{Expr}
 use Rattle.algebra.specs.Item.{first}
 use Rattle.algebra.specs.Places.{product}
 use Rattle.algebra.specs.Transitions.{Labelled, Pair, paired, silent, select, labelled, joined, part-at-parallel}
-use Rattle.transitions.specs.Listing.{firsts, pairs-with, pairs-of, joined-pair}
+use Rattle.transitions.specs.inner.Listing.{firsts, pairs-with, pairs-of, joined-pair}
 
 select-append : {A : Type 0} (ok : A → Bool) (xs ys : List A) → select ok (xs ++ ys) ≡ select ok xs ++ select ok ys
 unfolding select

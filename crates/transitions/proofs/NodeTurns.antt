@@ -8,13 +8,13 @@ use lib.ListN.{getD}
 use Rattle.algebra.specs.Expr.{Expr, action, sequence, choice, parallel, loop, scope, actions}
 use Rattle.algebra.specs.Scopes.{ScopesNamed}
 use Rattle.algebra.specs.Transitions.{Labelled, transitions}
-use Rattle.plan.specs.Nodes.{numbers, nodes, node-count}
-use Rattle.plan.specs.Table.{Node, tag-at, after-at}
+use Rattle.plan.specs.inner.Nodes.{numbers, nodes, node-count}
+use Rattle.plan.specs.inner.Table.{Node, tag-at, after-at}
 use Rattle.plan.proofs.NodeTable.{node-says, sequence-operands, choice-operands, parallel-operands, loop-operands}
 use Rattle.plan.proofs.NodeValues.{node-count-positive}
-use Rattle.transitions.specs.Numbers.{most}
-use Rattle.transitions.specs.Parting.{first-at}
-use Rattle.transitions.specs.Listing.{Stored, Lists, pairs, Operands, AllNamed, all-actions, all-transitions}
+use Rattle.transitions.specs.inner.Numbers.{most}
+use Rattle.transitions.specs.inner.Parting.{first-at}
+use Rattle.transitions.specs.inner.Listing.{Stored, Lists, pairs, Operands, AllNamed, all-actions, all-transitions}
 use Rattle.transitions.proofs.WhereActionsPart.{node-first}
 use Rattle.transitions.proofs.Weights.{pairs-append, transitions-weight}
 use Rattle.transitions.proofs.StillToCome.{Left, nothing-yet, one-stored, some-held, all-held, is-held}

@@ -7,8 +7,8 @@ use mathlib.Core.Path.{_≡_, refl, sym, _∙_, ap}
 use mathlib.Core.List.{List}
 use lib.ListN.{length, List·getD-eq-default}
 use borrow.Author.Tests.{ne-eqb, lt-ltb, le-ltb, le-leb, lt-leb}
-use Rattle.plan.specs.Table.{tag-at, after-at}
-use Rattle.transitions.specs.Parting.{first-at, operand-by, SameOperand}
+use Rattle.plan.specs.inner.Table.{tag-at, after-at}
+use Rattle.transitions.specs.inner.Parting.{first-at, operand-by, SameOperand}
 
 module _ (rows : List ℕ) (k i : ℕ) {tag : ℕ} (read : tag ≡ tag-at rows k) where
   -- A row with a tag stands in the table.

@@ -8,10 +8,10 @@ use lib.ListN.{length, getD}
 use Rattle.algebra.specs.Expr.{Expr, actions, scope}
 use Rattle.algebra.specs.Scopes.{ScopesNamed}
 use Rattle.algebra.specs.Transitions.{Labelled, part-at-parallel, kept, joined, transitions}
-use Rattle.plan.specs.Nodes.{numbers, nodes}
-use Rattle.plan.specs.Table.{Node}
+use Rattle.plan.specs.inner.Nodes.{numbers, nodes}
+use Rattle.plan.specs.inner.Table.{Node}
 use Rattle.plan.proofs.NodeTable.{scope-operand}
-use Rattle.transitions.specs.Listing.{Part, Found, Held, Lists, firsts, pairs-of}
+use Rattle.transitions.specs.inner.Listing.{Part, Found, Held, Lists, firsts, pairs-of}
 use Rattle.transitions.proofs.JoinedPairs.{joined-pairs}
 use Rattle.transitions.proofs.Weights.{kept-weight, firsts-few}
 use Rattle.transitions.proofs.StillToCome.{held-then}

@@ -13,8 +13,8 @@ use borrow.Author.Tests.{eq-eqb, ne-eqb}
 use Rattle.algebra.specs.Item.{first}
 use Rattle.algebra.specs.Transitions.{Labelled, select, stays, kept}
 use Rattle.plan.proofs.Stands.{stands-kept}
-use Rattle.transitions.specs.Numbers.{flat}
-use Rattle.transitions.specs.Listing.{Part, Stored, Found, Held, firsts}
+use Rattle.transitions.specs.inner.Numbers.{flat}
+use Rattle.transitions.specs.inner.Listing.{Part, Stored, Found, Held, firsts}
 use Rattle.transitions.proofs.FlatNumbers.{label-at, first-at, second-at, part-behind, part-over}
 use Rattle.transitions.proofs.StillToCome.{Left, nothing-yet, all-held, one-stored}
 

@@ -7,8 +7,8 @@ use mathlib.Core.List.{List, [], _∷_, _++_, append-assoc, append-nil}
 use lib.ListN.{length, take, length-append}
 use Rattle.algebra.specs.Item.{first}
 use Rattle.algebra.specs.Transitions.{Labelled}
-use Rattle.transitions.specs.Numbers.{flat, second, most}
-use Rattle.transitions.specs.Listing.{Stored, Held, Lists, pairs}
+use Rattle.transitions.specs.inner.Numbers.{flat, second, most}
+use Rattle.transitions.specs.inner.Listing.{Stored, Held, Lists, pairs}
 use Rattle.transitions.proofs.FlatNumbers.{flat-append}
 use Rattle.transitions.proofs.Weights.{pairs-append}
 

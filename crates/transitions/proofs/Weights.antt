@@ -12,7 +12,7 @@ use Rattle.algebra.specs.Expr.{Expr, action, sequence, choice, parallel, loop, 
 use Rattle.algebra.specs.Item.{Item, one, two, first}
 use Rattle.algebra.specs.Transitions.{Labelled, select, labelled, stays, kept, joined, transitions, part-at-parallel}
 use Rattle.algebra.proofs.ListedItems.{item-label, listed-label}
-use Rattle.transitions.specs.Listing.{pair-of, pairs, firsts, pairs-with, pairs-of, joined-pair}
+use Rattle.transitions.specs.inner.Listing.{pair-of, pairs, firsts, pairs-with, pairs-of, joined-pair}
 use Rattle.transitions.proofs.JoinedPairs.{joined-pairs}
 
 pub pairs-append : (ts us : List Labelled) → pairs (ts ++ us) ≡ pairs ts + pairs us

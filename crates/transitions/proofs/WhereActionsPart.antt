@@ -8,11 +8,11 @@ use mathlib.Core.List.{List}
 use lib.Dec.{eqb, ltb, leb}
 use Rattle.algebra.specs.Expr.{Expr, action, sequence, choice, parallel, loop, scope, actions}
 use Rattle.algebra.specs.Transitions.{where-both, part-at-parallel}
-use Rattle.plan.specs.Nodes.{numbers, nodes, node-count}
-use Rattle.plan.specs.Table.{Node, tag-at, after-at}
+use Rattle.plan.specs.inner.Nodes.{numbers, nodes, node-count}
+use Rattle.plan.specs.inner.Table.{Node, tag-at, after-at}
 use Rattle.plan.proofs.NodeTable.{node-says, sequence-operands, choice-operands, parallel-operands, loop-operands, scope-operand}
 use Rattle.plan.proofs.NodeValues.{node-count-positive}
-use Rattle.transitions.specs.Parting.{first-at, operand-by}
+use Rattle.transitions.specs.inner.Parting.{first-at, operand-by}
 
 -- One of two operands for each action: the same, or not.
 module _ (here in-first in-rest : Bool) (a b : ℕ) where

@@ -11,12 +11,12 @@ use Rattle.field.specs.Limits.{transition-limit}
 use Rattle.algebra.specs.Expr.{Expr, scope, actions}
 use Rattle.algebra.specs.Scopes.{ScopesNamed}
 use Rattle.algebra.specs.Transitions.{Labelled, transitions}
-use Rattle.plan.specs.Nodes.{node-count}
-use Rattle.plan.specs.Table.{Table, Node}
+use Rattle.plan.specs.inner.Nodes.{node-count}
+use Rattle.plan.specs.inner.Table.{Table, Node}
 use Rattle.plan.proofs.NodeTable.{scope-operand}
 use Rattle.plan.proofs.NodeValues.{table-node}
-use Rattle.transitions.specs.Numbers.{flat, most}
-use Rattle.transitions.specs.Listing.{Part, Held, Lists, pairs, Operands, AllNamed, all-actions, all-transitions}
+use Rattle.transitions.specs.inner.Numbers.{flat, most}
+use Rattle.transitions.specs.inner.Listing.{Part, Held, Lists, pairs, Operands, AllNamed, all-actions, all-transitions}
 use Rattle.transitions.proofs.FlatNumbers.{flat-length}
 use Rattle.transitions.proofs.Weights.{scope-pairs, pairs-within}
 use Rattle.transitions.proofs.StillToCome.{is-over}

@@ -1,3 +1,1 @@
-pub mod Parting
-pub mod Numbers
-pub mod Listing
+pub mod inner

@@ -2,7 +2,7 @@
 ghost use mathlib.Core.Path.{_≡_};
 ghost use Prim.Native.Nat.{_≤_, _<_, min};
 ghost use lib.ListN.{length};
-ghost use Rattle.transitions.specs.Parting.{operand-by, SameOperand, Parts};
+ghost use Rattle.transitions.specs.inner.Parting.{operand-by, SameOperand, Parts};
 use plan::exclusive::row_number;
 use plan::tags::ACTION;
 use plan::tags::AFTER;

@@ -9,7 +9,7 @@ use borrow.Author.Needs.{needs}
 use borrow.Fn.Kinds.{In}
 use borrow.Fn.PlainCycle.{Measures, is, falls, and}
 use Rattle.plan.specs.Reading.{read-field}
-use Rattle.plan.specs.Inner.{HeadFits, OperandsFit}
+use Rattle.plan.specs.inner.Fields.{HeadFits, OperandsFit}
 use Rattle.plan.specs.declared.Head.{Head}
 use Rattle.plan.specs.declared.OperandsRead.{OperandsRead}
 use Rattle.plan.proofs.Readers.{body-length, field-too-deep, field-refused, field-action, field-operands-refused, field-operator, Left, none-read, left-over, all-read, one-missing, one-refused, one-read}

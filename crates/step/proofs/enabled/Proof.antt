@@ -9,7 +9,7 @@ use lib.Seq.{length-take-le}
 use lib.Dec.{leb}
 use Rattle.field.specs.Lists.{all}
 use Rattle.net.specs.Lent.{lent}
-use Rattle.step.specs.Naming.{InOrder}
+use Rattle.step.specs.inner.Naming.{InOrder}
 use Rattle.step.proofs.Checked.{marking-good, lent-order}
 use Rattle.step.proofs.EnabledCall.{no-net-lent, no-marking-lent, no-room-lent, stuck-lent, many-lent}
 use Rattle.step.proofs.enabled.Statement.{statement}

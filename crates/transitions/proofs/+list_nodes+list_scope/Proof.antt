@@ -10,8 +10,8 @@ use borrow.Fn.Kinds.{In}
 use borrow.Fn.PlainCycle.{Measures, is, falls, and}
 use Rattle.algebra.specs.Expr.{Expr}
 use Rattle.plan.proofs.exclusive.wide.Reads as wide-reads
-use Rattle.transitions.specs.Numbers.{most}
-use Rattle.transitions.specs.Listing.{Operands, AllNamed, all-actions, all-transitions}
+use Rattle.transitions.specs.inner.Numbers.{most}
+use Rattle.transitions.specs.inner.Listing.{Operands, AllNamed, all-actions, all-transitions}
 use Rattle.transitions.proofs.StillToCome.{is-over}
 use Rattle.transitions.proofs.NodeTurns.{Listing, nothing-listed, all-listed, no-room-listed, action-listed, operator-passed, scope-inside, scope-listed}
 use Rattle.transitions.proofs.WholeLists.{operand-over, scope-closed}

@@ -5,7 +5,7 @@ use native.Mathlib.Omega.{arith}
 use mathlib.Core.Path.{_≡_, refl}
 use lib.ListN.{length, length-set}
 use borrow.Author.Needs.{needs}
-use Rattle.arcs.specs.Merge.{Run}
+use Rattle.arcs.specs.inner.Merge.{Run}
 use Rattle.arcs.proofs.Merges.{run-start, run-some, run-next}
 use Rattle.arcs.proofs.merge.copy_below.Statement.{statement}
 use Rattle.arcs.proofs.merge.copy_below.Tie as tie

@@ -1,7 +1,7 @@
 -- `judge` meets its contract: the tests in their order, each by its law.
 -- Assumes nothing.
 use mathlib.Core.Path.{sym, _∙_, ap}
-use Rattle.plan.specs.Judged.{loops-say}
+use Rattle.plan.specs.inner.Judged.{loops-say}
 use Rattle.compile.proofs.Judges.{loops-stop, places-stop, all-fine}
 use borrow.Author.Needs.{needs}
 use Rattle.compile.proofs.front.judge.Statement.{statement}

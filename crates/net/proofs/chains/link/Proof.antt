@@ -6,7 +6,7 @@ use mathlib.Core.Logic.{inl}
 use native.Mathlib.Omega.{arith}
 use borrow.Author.Needs.{needs}
 use lib.ListN.{length, length-set}
-use Rattle.net.specs.Chains.{Kept}
+use Rattle.net.specs.inner.Chains.{Kept}
 use Rattle.net.proofs.ChainTurns.{ChainsFrom, chain-on, chain-off, chains-none, chains-all, chains-down, kept-on}
 use Rattle.net.proofs.RisingChains.{RisesFrom, rises-none, rises-all, rises-down, rises-on, rises-off}
 use Rattle.net.proofs.chains.link.Statement.{statement}

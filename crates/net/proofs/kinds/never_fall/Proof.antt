@@ -6,7 +6,7 @@ use native.Mathlib.Omega.{arith}
 use borrow.Author.Needs.{needs}
 use lib.ListN.{length, getD, drop}
 use lib.Dec.{leb}
-use Rattle.net.specs.Passes.{neighbours}
+use Rattle.net.specs.inner.Passes.{neighbours}
 use Rattle.net.proofs.Neighbours.{neighbours-turn, neighbours-end}
 use Rattle.net.proofs.kinds.never_fall.Statement.{statement}
 use Rattle.net.proofs.kinds.never_fall.Tie as tie

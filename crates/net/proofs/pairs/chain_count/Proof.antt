@@ -2,7 +2,7 @@
 use Prim.Native.Nat.{ℕ, _-_, _≤_, _<_}
 use native.Mathlib.Omega.{arith}
 use borrow.Author.Needs.{needs}
-use Rattle.net.specs.Chains.{in-row}
+use Rattle.net.specs.inner.Chains.{in-row}
 use Rattle.net.proofs.EmptyChains.{one-more-below}
 use Rattle.net.proofs.pairs.chain_count.Statement.{statement}
 use Rattle.net.proofs.pairs.chain_count.Tie as tie

@@ -7,7 +7,7 @@ use borrow.Author.Needs.{needs}
 use borrow.Author.Tests.{eq-eqb, ne-eqb}
 use lib.ListN.{length, getD, length-set}
 use Rattle.net.specs.Tables.{none}
-use Rattle.net.specs.Passes.{seconds-differ}
+use Rattle.net.specs.inner.Passes.{seconds-differ}
 use Rattle.net.proofs.Turns.{goes-on, stops}
 use Rattle.net.proofs.Walks.{ahead, Stands, walk-bounded, walk-starts, walk-goes-on}
 use Rattle.net.proofs.Stamps.{left-to-test, seconds-ahead, seconds-start, seconds-turn, seconds-end, stamps-stay}

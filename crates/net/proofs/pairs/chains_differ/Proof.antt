@@ -4,7 +4,7 @@ use mathlib.Core.Path.{_≡_, refl, sym, _∙_}
 use native.Mathlib.Omega.{arith}
 use borrow.Author.Needs.{needs}
 use lib.ListN.{length, getD}
-use Rattle.net.specs.Passes.{seconds-differ, each, pairs-pass}
+use Rattle.net.specs.inner.Passes.{seconds-differ, each, pairs-pass}
 use Rattle.net.proofs.Turns.{goes-on, stops}
 use Rattle.net.proofs.Stamps.{each-turn}
 use Rattle.net.proofs.EmptyChains.{rest-empty}

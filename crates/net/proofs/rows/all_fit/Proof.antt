@@ -4,7 +4,7 @@ use mathlib.Core.Path.{_≡_, sym, _∙_}
 use native.Mathlib.Nat.{sub-zero}
 use native.Mathlib.Omega.{arith}
 use borrow.Author.Needs.{needs}
-use Rattle.net.specs.Passes.{rows-pass}
+use Rattle.net.specs.inner.Passes.{rows-pass}
 use Rattle.net.proofs.Turns.{goes-on, stops}
 use Rattle.net.proofs.RowTurns.{rows-turn, rows-end, row-within}
 use Rattle.net.proofs.rows.all_fit.Statement.{statement}

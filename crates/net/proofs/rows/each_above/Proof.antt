@@ -5,7 +5,7 @@ use mathlib.Core.Path.{_≡_, refl, sym}
 use mathlib.Core.Bool.{_&&_}
 use lib.ListN.{length, getD, drop}
 use lib.Dec.{ltb}
-use Rattle.net.specs.Passes.{neighbours}
+use Rattle.net.specs.inner.Passes.{neighbours}
 use Rattle.net.proofs.Neighbours.{neighbours-turn, neighbours-end}
 use Rattle.net.proofs.rows.each_above.Statement.{statement}
 use Rattle.net.proofs.rows.each_above.Tie as tie

@@ -1,7 +1,7 @@
 -- `check_in` meets its contract: once all nodes are judged the answer is that of the check for loops.
 -- Assumes nothing.
 use mathlib.Core.Path.{refl, _∙_}
-use Rattle.plan.specs.Judged.{offset-says}
+use Rattle.plan.specs.inner.Judged.{offset-says}
 use Rattle.plan.proofs.Judges.{none-left, all-judged}
 use borrow.Author.Needs.{needs}
 use Rattle.plan.proofs.exclusive.check_in.Statement.{statement}

@@ -1,7 +1,7 @@
 -- `list_at` meets its contract: each number is the one that it was read from.
 -- Assumes nothing.
 use borrow.Author.Needs.{needs}
-use Rattle.spread.specs.Lists.{one-list}
+use Rattle.spread.specs.inner.Lists.{one-list}
 use Rattle.spread.proofs.lists.list_at.Statement.{statement}
 use Rattle.spread.proofs.lists.list_at.Tie as tie
 

@@ -8,7 +8,7 @@ use lib.ListN.{length, set, length-set}
 use lib.Seq.{sets}
 use borrow.Author.Tests.{le-leb, lt-leb}
 use borrow.Author.Needs.{needs}
-use Rattle.spread.specs.Lists.{list-numbers}
+use Rattle.spread.specs.inner.Lists.{list-numbers}
 use Rattle.spread.proofs.RowsPut.{row-stored}
 use Rattle.spread.proofs.lists.put_node.Statement.{statement}
 use Rattle.spread.proofs.lists.put_node.Tie as tie

@@ -4,7 +4,7 @@ use Prim.Native.Nat.{_-_, _≤_}
 use native.Mathlib.Omega.{arith}
 use borrow.Author.Needs.{needs}
 use mathlib.Core.Path.{subst}
-use Rattle.spread.specs.Placing.{CopiedOn}
+use Rattle.spread.specs.inner.Placing.{CopiedOn}
 use Rattle.spread.proofs.Placings.{copies-none, copies-more}
 use Rattle.spread.proofs.placing.copy_on.Statement.{statement}
 use Rattle.spread.proofs.placing.copy_on.Tie as tie

@@ -3,7 +3,7 @@
 use native.Mathlib.Omega.{arith}
 use borrow.Author.Needs.{needs}
 use mathlib.Core.Path.{sym, ap}
-use Rattle.spread.specs.Lists.{place-of}
+use Rattle.spread.specs.inner.Lists.{place-of}
 use Rattle.spread.proofs.placing.place_of.Statement.{statement}
 use Rattle.spread.proofs.placing.place_of.Tie as tie
 

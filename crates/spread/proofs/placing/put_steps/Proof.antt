@@ -5,7 +5,7 @@ use native.Mathlib.Omega.{arith}
 use native.Mathlib.Nat.{zero-mul, add-mul, one-mul}
 use borrow.Author.Needs.{needs}
 use mathlib.Core.Path.{_≡_, subst}
-use Rattle.spread.specs.Placing.{Stepped}
+use Rattle.spread.specs.inner.Placing.{Stepped}
 use Rattle.spread.proofs.Placings.{steps-none, steps-more}
 use Rattle.spread.proofs.placing.put_steps.Statement.{statement}
 use Rattle.spread.proofs.placing.put_steps.Tie as tie

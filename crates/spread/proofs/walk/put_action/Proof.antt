@@ -2,7 +2,7 @@
 -- Assumes nothing.
 use mathlib.Core.Path.{_∙_, ap}
 use borrow.Author.Needs.{needs}
-use Rattle.spread.specs.Walk.{index-numbers, index-put}
+use Rattle.spread.specs.inner.Walk.{index-numbers, index-put}
 use Rattle.spread.proofs.walk.put_action.Statement.{statement}
 use Rattle.spread.proofs.walk.put_action.Tie as tie
 

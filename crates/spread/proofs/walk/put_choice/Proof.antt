@@ -2,7 +2,7 @@
 -- Assumes nothing.
 use native.Mathlib.Omega.{arith}
 use borrow.Author.Needs.{needs}
-use Rattle.arcs.specs.Moves.{choice-move}
+use Rattle.arcs.specs.inner.Moves.{choice-move}
 use Rattle.spread.proofs.OperandsPut.{internal-kept, internal-behind, of-entries, of-exits, two-told}
 use Rattle.spread.proofs.walk.put_choice.Statement.{statement}
 use Rattle.spread.proofs.walk.put_choice.Tie as tie

@@ -2,7 +2,7 @@
 -- Assumes nothing.
 use native.Mathlib.Omega.{arith}
 use borrow.Author.Needs.{needs}
-use Rattle.arcs.specs.Moves.{parallel-move}
+use Rattle.arcs.specs.inner.Moves.{parallel-move}
 use Rattle.spread.proofs.OperandsPut.{entries-kept, exits-kept, internal-kept, internal-behind, of-entries, of-exits, two-told}
 use Rattle.spread.proofs.walk.put_parallel.Statement.{statement}
 use Rattle.spread.proofs.walk.put_parallel.Tie as tie

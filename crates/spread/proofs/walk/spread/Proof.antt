@@ -6,8 +6,8 @@ use mathlib.Core.Path.{_≡_, refl, sym, _∙_, ap, subst}
 use lib.ListN.{length}
 use Rattle.algebra.specs.Expr.{Expr, actions}
 use Rattle.plan.proofs.NodeValues.{node-count-positive}
-use Rattle.spread.specs.Spread.{Of}
-use Rattle.spread.specs.Walk.{operands-put}
+use Rattle.spread.specs.inner.Spread.{Of}
+use Rattle.spread.specs.inner.Walk.{operands-put}
 use Rattle.spread.proofs.Passes.{Reached, begins, action-step, operator-step, all-told}
 use borrow.Author.Needs.{needs}
 use Rattle.spread.proofs.walk.spread.Statement.{statement}

@@ -5,7 +5,7 @@ use native.Mathlib.Omega.{arith}
 use borrow.Author.Needs.{needs}
 use Rattle.net.specs.Tables.{none}
 use Rattle.net.proofs.Walks.{ahead, Stands, walk-bounded}
-use Rattle.step.specs.Naming.{seek, seek-in}
+use Rattle.step.specs.inner.Naming.{seek, seek-in}
 use Rattle.step.proofs.Names.{seek-starts, seek-here, seek-on, walk-on, seek-ends}
 use Rattle.step.proofs.firing.find.Statement.{statement}
 use Rattle.step.proofs.firing.find.Tie as tie

@@ -5,7 +5,7 @@ use native.Mathlib.Omega.{arith}
 use borrow.Author.Needs.{needs}
 use lib.ListN.{length, length-replicate}
 use lib.Seq.{length-take-le}
-use Rattle.step.specs.FormSays.{Bytes}
+use Rattle.step.specs.inner.FormSays.{Bytes}
 use Rattle.step.proofs.StepForms.{items-fit, bytes-part}
 use Rattle.step.proofs.FireAnswers.{step-refused, step-fired}
 use Rattle.step.proofs.firing.read_and_fire.Statement.{statement}

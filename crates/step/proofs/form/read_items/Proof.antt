@@ -6,7 +6,7 @@ use native.Mathlib.Omega.{arith}
 use borrow.Author.Needs.{needs}
 use lib.ListN.{length, drop, length-set}
 use Rattle.step.specs.Form.{read-items}
-use Rattle.step.specs.FormSays.{items-in, paired, ItemFits, Bytes}
+use Rattle.step.specs.inner.FormSays.{items-in, paired, ItemFits, Bytes}
 use Rattle.step.specs.declared.form.ItemAnswer.{ItemAnswer}
 use Rattle.step.proofs.ItemLists.{below-set, behind, behind-none, items-end, items-refused, items-turn, says-refused, says-item, fits-item}
 use Rattle.step.proofs.form.read_items.Statement.{statement}

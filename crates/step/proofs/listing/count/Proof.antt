@@ -5,7 +5,7 @@ use native.Mathlib.Omega.{arith}
 use borrow.Author.Needs.{needs}
 use lib.ListN.{length}
 use Rattle.algebra.specs.Firing.{enabled-from}
-use Rattle.step.specs.Naming.{transitions-within}
+use Rattle.step.specs.inner.Naming.{transitions-within}
 use Rattle.step.proofs.Orders.{transition-fits}
 use Rattle.step.proofs.EnabledTurns.{enabled-at, enabled-all, enabled-end, enabled-here, enabled-not}
 use Rattle.step.proofs.listing.count.Statement.{statement}

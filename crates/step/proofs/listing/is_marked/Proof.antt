@@ -5,7 +5,7 @@ use mathlib.Core.Bool.{false}
 use mathlib.Core.List.{List}
 use lib.ListN.{length}
 use borrow.Author.Needs.{needs}
-use Rattle.step.specs.Moving.{Below}
+use Rattle.step.specs.inner.Moving.{Below}
 use Rattle.step.proofs.EnabledTurns.{marked-held}
 use Rattle.step.proofs.listing.is_marked.Statement.{statement}
 use Rattle.step.proofs.listing.is_marked.Tie as tie

@@ -8,7 +8,7 @@ use lib.ListN.{length, length-set}
 use lib.Seq.{sets}
 use native.Mathlib.Numerals.{add-one}
 use Rattle.algebra.specs.Firing.{enabled-from}
-use Rattle.step.specs.Naming.{transitions-within}
+use Rattle.step.specs.inner.Naming.{transitions-within}
 use Rattle.step.proofs.Orders.{transition-fits}
 use Rattle.step.proofs.EnabledTurns.{enabled-at, enabled-all, enabled-end, enabled-here, enabled-not}
 use Rattle.step.proofs.listing.write.Statement.{statement}

@@ -5,7 +5,7 @@ use native.Mathlib.Omega.{arith}
 use borrow.Author.Needs.{needs}
 use borrow.Author.Tests.{eq-eqb, ne-eqb}
 use lib.ListN.{length, drop}
-use Rattle.step.specs.Moving.{hold}
+use Rattle.step.specs.inner.Moving.{hold}
 use Rattle.step.proofs.MoveTurns.{hold-turn, hold-end}
 use Rattle.step.proofs.moving.all_hold.Statement.{statement}
 use Rattle.step.proofs.moving.all_hold.Tie as tie

@@ -4,7 +4,7 @@ use mathlib.Core.Path.{_≡_, refl, sym, ap, _∙_}
 use native.Mathlib.Omega.{arith}
 use borrow.Author.Needs.{needs}
 use lib.ListN.{length, drop, length-set}
-use Rattle.step.specs.Moving.{filled}
+use Rattle.step.specs.inner.Moving.{filled}
 use Rattle.step.proofs.MoveTurns.{filled-turn, filled-end}
 use Rattle.step.proofs.moving.fill.Statement.{statement}
 use Rattle.step.proofs.moving.fill.Tie as tie

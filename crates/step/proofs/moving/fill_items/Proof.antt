@@ -4,7 +4,7 @@ use mathlib.Core.Path.{_≡_, refl, sym, ap, subst, _∙_}
 use native.Mathlib.Omega.{arith}
 use borrow.Author.Needs.{needs}
 use lib.ListN.{length, drop}
-use Rattle.step.specs.Moving.{sides, filled, joined, AllFit}
+use Rattle.step.specs.inner.Moving.{sides, filled, in-one, AllFit}
 use Rattle.step.proofs.MoveTurns.{fits-at, below-at, filling-turn, filling-end}
 use Rattle.step.proofs.moving.fill_items.Statement.{statement}
 use Rattle.step.proofs.moving.fill_items.Tie as tie
@@ -12,7 +12,7 @@ use Rattle.step.proofs.moving.fill_items.Tie as tie
 abbrev Inv-loop : tie.InvT-loop
 Inv-loop rows arcs marking₀ ts out tokens i₀ marking i =
     (i ≤ length ts) × (length marking ≡ length marking₀)
-    × (filled tokens marking₀ (joined (sides out rows arcs ts)) ≡ filled tokens marking (joined (sides out rows arcs (drop i ts))))
+    × (filled tokens marking₀ (in-one (sides out rows arcs ts)) ≡ filled tokens marking (in-one (sides out rows arcs (drop i ts))))
 
 abbrev μ-loop : tie.MeasureT-loop
 μ-loop rows arcs marking₀ ts out tokens i₀ marking i = length ts - i

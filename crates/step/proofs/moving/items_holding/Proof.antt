@@ -5,7 +5,7 @@ use native.Mathlib.Nat.{zero-add}
 use native.Mathlib.Omega.{arith}
 use borrow.Author.Needs.{needs}
 use lib.ListN.{length, drop}
-use Rattle.step.specs.Moving.{sides, holds-each}
+use Rattle.step.specs.inner.Moving.{sides, holds-each}
 use Rattle.step.proofs.MoveTurns.{fits-at, below-at, holding-more, holding-no, holding-end}
 use Rattle.step.proofs.moving.items_holding.Statement.{statement}
 use Rattle.step.proofs.moving.items_holding.Tie as tie

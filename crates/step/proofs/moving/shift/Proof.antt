@@ -5,7 +5,7 @@ use native.Mathlib.Omega.{arith}
 use borrow.Author.Needs.{needs}
 use borrow.Author.Tests.{eq-eqb, ne-eqb}
 use lib.ListN.{length, drop, length-set}
-use Rattle.step.specs.Moving.{filled, shifts}
+use Rattle.step.specs.inner.Moving.{filled, shifts}
 use Rattle.step.proofs.Bools.{never}
 use Rattle.step.proofs.MoveTurns.{Agree, agree-set, count-at, filled-turn, filled-end, shifts-turn, shifts-end}
 use Rattle.step.proofs.moving.shift.Statement.{statement}

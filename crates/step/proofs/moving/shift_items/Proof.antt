@@ -5,7 +5,7 @@ use native.Mathlib.Nat.{zero-add}
 use native.Mathlib.Omega.{arith}
 use borrow.Author.Needs.{needs}
 use lib.ListN.{length, drop}
-use Rattle.step.specs.Moving.{sides, filled, shifts-each, joined, AllFit}
+use Rattle.step.specs.inner.Moving.{sides, filled, shifts-each, in-one, AllFit}
 use Rattle.step.proofs.MoveTurns.{Agree, fits-at, below-at, shifting-more, shifting-no, shifting-end, filling-turn, filling-end, agree-turn}
 use Rattle.step.proofs.moving.shift_items.Statement.{statement}
 use Rattle.step.proofs.moving.shift_items.Tie as tie
@@ -14,8 +14,8 @@ abbrev Inv-loop : tie.InvT-loop
 Inv-loop rows arcs marking₀ ts out from to i₀ marking i =
     (i ≤ length ts) × (length marking ≡ length marking₀)
     × (shifts-each from to marking₀ (sides out rows arcs ts) ≡ i + shifts-each from to marking (sides out rows arcs (drop i ts)))
-    × (filled to marking₀ (joined (sides out rows arcs ts)) ≡ filled to marking (joined (sides out rows arcs (drop i ts))))
-    × Agree (joined (sides out rows arcs ts)) marking₀ marking
+    × (filled to marking₀ (in-one (sides out rows arcs ts)) ≡ filled to marking (in-one (sides out rows arcs (drop i ts))))
+    × Agree (in-one (sides out rows arcs ts)) marking₀ marking
 
 abbrev μ-loop : tie.MeasureT-loop
 μ-loop rows arcs marking₀ ts out from to i₀ marking i = length ts - i

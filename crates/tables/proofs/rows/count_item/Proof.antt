@@ -4,9 +4,9 @@ use Prim.Native.Nat.{_+_}
 use native.Mathlib.Omega.{arith}
 use mathlib.Core.Path.{sym, _∙_, ap, ap₂}
 use borrow.Author.Needs.{needs}
-use Rattle.boxes.specs.ArcCounts.{item-arcs}
+use Rattle.boxes.specs.inner.ArcCounts.{item-arcs}
 use Rattle.arcs.proofs.Transitions.{item-of-one, item-of-two}
-use Rattle.tables.specs.Rows.{told-count}
+use Rattle.tables.specs.inner.Rows.{told-count}
 use Rattle.tables.proofs.rows.count_item.Statement.{statement}
 use Rattle.tables.proofs.rows.count_item.Tie as tie
 

@@ -3,7 +3,7 @@
 use native.Mathlib.Omega.{arith}
 use mathlib.Core.Path.{sym, _∙_, ap}
 use borrow.Author.Needs.{needs}
-use Rattle.tables.specs.Rows.{told-count}
+use Rattle.tables.specs.inner.Rows.{told-count}
 use Rattle.tables.proofs.rows.count_of.Statement.{statement}
 use Rattle.tables.proofs.rows.count_of.Tie as tie
 

@@ -5,9 +5,9 @@ use mathlib.Core.Path.{_∙_, ap}
 use mathlib.Core.Logic.{inl, inr, ⊎-elim}
 use borrow.Author.Needs.{needs}
 use Rattle.net.specs.Tables.{item-of}
-use Rattle.boxes.specs.ArcCounts.{item-arcs}
+use Rattle.boxes.specs.inner.ArcCounts.{item-arcs}
 use Rattle.arcs.proofs.Transitions.{item-of-one, item-of-two}
-use Rattle.tables.specs.Rows.{told-count}
+use Rattle.tables.specs.inner.Rows.{told-count}
 use Rattle.tables.proofs.Sides.{as-item, in-some-order}
 use Rattle.tables.proofs.SinglePlaces.{one-place, two-places}
 use Rattle.tables.proofs.Puts.{its-numbers}

@@ -6,9 +6,9 @@ use mathlib.Core.Path.{_≡_, refl}
 use lib.ListN.{drop, length-drop}
 use lib.Seq.{length-take-le}
 use borrow.Author.Needs.{needs}
-use Rattle.boxes.specs.ArcCounts.{item-arcs}
+use Rattle.boxes.specs.inner.ArcCounts.{item-arcs}
 use Rattle.arcs.specs.declared.sides.Side.the-variants.{Inputs, Outputs}
-use Rattle.tables.specs.Rows.{item-at, told-arcs}
+use Rattle.tables.specs.inner.Rows.{item-at, told-arcs}
 use Rattle.tables.proofs.Counted.{side-told, sides-told}
 use Rattle.tables.proofs.Puts.{transition-put}
 use Rattle.tables.proofs.rows.put_transition.Statement.{statement}

@@ -7,7 +7,7 @@ use mathlib.Core.List.{List}
 use lib.ListN.{length}
 use borrow.Author.Needs.{needs}
 use Rattle.algebra.specs.Transitions.{Labelled}
-use Rattle.transitions.specs.Listing.{Part, firsts}
+use Rattle.transitions.specs.inner.Listing.{Part, firsts}
 use Rattle.transitions.proofs.ScopeTurns.{Gathering, none-gathered, one-gathered, none-more-gathered, all-gathered}
 use Rattle.transitions.proofs.scope.gather.Statement.{statement}
 use Rattle.transitions.proofs.scope.gather.Tie as tie

@@ -7,9 +7,9 @@ use lib.ListN.{length}
 use borrow.Author.Needs.{needs}
 use Rattle.algebra.specs.Expr.{Expr}
 use Rattle.algebra.specs.Transitions.{part-at-parallel}
-use Rattle.plan.specs.Table.{Node}
-use Rattle.transitions.specs.Numbers.{most}
-use Rattle.transitions.specs.Listing.{Found, pairs-of}
+use Rattle.plan.specs.inner.Table.{Node}
+use Rattle.transitions.specs.inner.Numbers.{most}
+use Rattle.transitions.specs.inner.Listing.{Found, pairs-of}
 use Rattle.transitions.proofs.StillToCome.{nothing-yet, is-held, is-over}
 use Rattle.transitions.proofs.JoinTurns.{JoiningAll, one-more-joined, no-more-room, all-pairs-joined}
 use Rattle.transitions.proofs.scope.join.Statement.{statement}

@@ -8,10 +8,10 @@ use lib.ListN.{length}
 use borrow.Author.Needs.{needs}
 use Rattle.algebra.specs.Expr.{Expr}
 use Rattle.algebra.specs.Transitions.{part-at-parallel}
-use Rattle.plan.specs.Table.{Node}
-use Rattle.transitions.specs.Numbers.{most}
-use Rattle.transitions.specs.Parting.{Parts}
-use Rattle.transitions.specs.Listing.{Found, pairs-with}
+use Rattle.plan.specs.inner.Table.{Node}
+use Rattle.transitions.specs.inner.Numbers.{most}
+use Rattle.transitions.specs.inner.Parting.{Parts}
+use Rattle.transitions.specs.inner.Listing.{Found, pairs-with}
 use Rattle.transitions.proofs.StillToCome.{nothing-yet, is-held, is-over}
 use Rattle.transitions.proofs.JoinTurns.{Joining, told, one-joined, none-joined, no-room, all-joined}
 use Rattle.transitions.proofs.scope.join_one.Statement.{statement}

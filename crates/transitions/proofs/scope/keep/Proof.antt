@@ -6,7 +6,7 @@ use mathlib.Core.List.{List}
 use lib.ListN.{length}
 use borrow.Author.Needs.{needs}
 use Rattle.algebra.specs.Transitions.{Labelled}
-use Rattle.transitions.specs.Listing.{Part}
+use Rattle.transitions.specs.inner.Listing.{Part}
 use Rattle.transitions.proofs.ScopeTurns.{Keeping, none-kept, one-kept, none-more-kept, all-kept}
 use Rattle.transitions.proofs.scope.keep.Statement.{statement}
 use Rattle.transitions.proofs.scope.keep.Tie as tie

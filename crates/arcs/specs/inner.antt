@@ -1,0 +1,5 @@
+pub mod Positions
+pub mod Moves
+pub mod Spreads
+pub mod Nodes
+pub mod Merge

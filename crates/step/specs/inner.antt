@@ -1,0 +1,4 @@
+pub mod FormSays
+pub mod Moving
+pub mod Moves
+pub mod Naming
