@@ -37,3 +37,5 @@ pub mod JoinedApart
 pub mod FiringIsDerived
 pub mod RecordsAgree
 pub mod Agreement
+pub mod EnabledIsDerivable
+pub mod ExclusiveIsNeeded

@@ -1,4 +1,6 @@
 pub mod KnownNets
+pub mod KnownRefusals
+pub mod KnownOrders
 pub mod CountsCutOff
 pub mod LargeNets
 pub mod ArcsRise

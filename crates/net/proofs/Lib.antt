@@ -14,3 +14,4 @@ pub mod EmptyChains
 pub mod Neighbours
 pub mod RisingChains
 pub mod CountedPart
+pub mod KnownTables

@@ -9,6 +9,7 @@ use lib.ListN.{length, getD, take, drop, length-append, length-drop, length-take
 use lib.Seq.{getD-drop, getD-take, getD-append-add}
 use lib.Dec.{T, leb, leb→le}
 use Rattle.field.specs.Field.{field}
+use Rattle.field.proofs.AreBytes.{AreBytes, none-are-bytes, cons-are-bytes, both-are-bytes, field-are-bytes}
 use Rattle.field.proofs.Fields.{field-length}
 use Rattle.field.proofs.Tests.{and-parts}
 use Rattle.algebra.specs.Expr.{Expr, action}
@@ -17,32 +18,6 @@ use Rattle.plan.specs.Bytes.{encode, named, within-limits}
 use Rattle.plan.proofs.Operators.{Operator, sequence-of, choice-of, parallel-of, loop-of, scope-of, tag-number, tag, number, arity, own, own-named, built, all-encode, all-named, built-encode, built-named, Each, by-operators}
 use Rattle.plan.proofs.Within.{limits-within}
 
--- each member is a byte
-abbrev pub AreBytes : List ℕ → Type 0
-AreBytes s = (i : ℕ) → i < length s → getD s i 0 < 256
-
-pub drop-are-bytes : (n : ℕ) (s : List ℕ) → AreBytes s → AreBytes (drop n s)
-drop-are-bytes n s b i h = rw (getD-drop n s i 0) (b (n + i) (omega (arith, length-drop n s)))
-
-pub take-are-bytes : (n : ℕ) (s : List ℕ) → AreBytes s → AreBytes (take n s)
-take-are-bytes n s b i h =
-    let l : length (take n s) ≡ min n (length s) = length-take n s in
-    rw (getD-take n s i 0 (omega arith)) (b i (omega arith))
-
-pub rest-are-bytes : (s t : List ℕ) → AreBytes (s ++ t) → AreBytes t
-rest-are-bytes s t b i h = rw (getD-append-add s t i 0) at (b (length s + i) (omega (arith, length-append s t)))
-
-none-are-bytes : AreBytes []
-none-are-bytes i h = absurd (let z : ⊥ = omega arith in z)
-
-cons-are-bytes : (x : ℕ) (s : List ℕ) → x < 256 → AreBytes s → AreBytes (x ∷ s)
-cons-are-bytes x s h b zero i = h
-cons-are-bytes x s h b (suc k) i = b k (omega arith)
-
-both-are-bytes : (s t : List ℕ) → AreBytes s → AreBytes t → AreBytes (s ++ t)
-both-are-bytes [] t b c = c
-both-are-bytes (x ∷ s) t b c = cons-are-bytes x (s ++ t) (b 0 (omega arith)) (both-are-bytes s t (λ i h. b (suc i) (omega arith)) c)
-
 tag-is-byte : (g : Tag) → tag-number g < 256
 tag-is-byte action-tag = omega arith
 tag-is-byte sequence-tag = omega arith
@@ -50,14 +25,6 @@ tag-is-byte choice-tag = omega arith
 tag-is-byte parallel-tag = omega arith
 tag-is-byte loop-tag = omega arith
 tag-is-byte scope-tag = omega arith
-
-field-are-bytes : (g : Tag) (body : List ℕ) → length body < 65536 → AreBytes body → AreBytes (field (tag-number g) body)
-unfolding field
-field-are-bytes g body h b =
-    let high = length body / 256 in
-    let low = length body % 256 in
-    cons-are-bytes (tag-number g) (high ∷ (low ∷ body)) (tag-is-byte g)
-    (cons-are-bytes high (low ∷ body) (omega arith) (cons-are-bytes low body (omega arith) b))
 
 label-is-byte : (l : ℕ) → T (is-label l) → l < 256
 label-is-byte l = go (leb l 127) (λ t. leb→le l 127 t)
@@ -86,7 +53,7 @@ all-are-bytes (suc k) es h l t =
 
 action-are-bytes : (l : ℕ) → EncodeAreBytes (action l)
 unfolding encode named
-action-are-bytes l h t = field-are-bytes action-tag (l ∷ []) (omega arith) (cons-are-bytes l [] (label-is-byte l t) none-are-bytes)
+action-are-bytes l h t = field-are-bytes (tag-number action-tag) (l ∷ []) (tag-is-byte action-tag) (omega arith) (cons-are-bytes l [] (label-is-byte l t) none-are-bytes)
 
 built-are-bytes : (o : Operator) (es : Operands (arity o)) → Each EncodeAreBytes (arity o) es → EncodeAreBytes (built o es)
 built-are-bytes o es h l t =
@@ -95,7 +62,7 @@ built-are-bytes o es h l t =
     let m : length (field (number o) body) < 65536 = rw (built-encode o es) at l in
     let n : length body < 65536 = omega (arith, field-length (number o) body) in
     rw (built-encode o es)
-    (field-are-bytes (tag o) body n
+    (field-are-bytes (tag-number (tag o)) body (tag-is-byte (tag o)) n
     (both-are-bytes (own o) (all-encode (arity o) es) (own-are-bytes o (ts .0))
     (all-are-bytes (arity o) es h (omega (arith, length-append (own o) (all-encode (arity o) es))) (ts .1))))
 

@@ -23,7 +23,7 @@ use Rattle.plan.specs.Bytes.{encode, depth, named, within-limits}
 use Rattle.plan.proofs.Operators.{Operator, sequence-of, choice-of, parallel-of, loop-of, scope-of, tag-number, tag, number, arity, own, own-named, built, all-encode, all-bytes, all-actions, all-depth, all-named, built-encode, built-bytes, built-actions, built-depth, built-named}
 use Rattle.plan.proofs.Within.{Within, within-the-limits}
 use Rattle.plan.proofs.ReadBack.{encode-length}
-use Rattle.plan.proofs.AreBytes.{AreBytes, drop-are-bytes, take-are-bytes, rest-are-bytes}
+use Rattle.field.proofs.AreBytes.{AreBytes, drop-are-bytes, take-are-bytes, rest-are-bytes}
 
 one-byte : (s : List ℕ) → length s ≡ 1 → s ≡ getD s 0 0 ∷ []
 one-byte [] e = absurd (let z : ⊥ = omega arith in z)

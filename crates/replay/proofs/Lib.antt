@@ -1,4 +1,5 @@
 pub mod KnownNets
+pub mod KnownReplays
 pub mod Runs
 pub mod Demand1
 pub mod Demand3

@@ -17,3 +17,7 @@ pub mod Checked
 pub mod EnabledCall
 pub mod Determined
 pub mod CountedPart
+pub mod RecordsReadBack
+pub mod RecordsWithin
+pub mod KnownForms
+pub mod KnownFirings

@@ -1,4 +1,5 @@
 pub mod Form
+pub mod Bytes
 pub mod Fire
 pub mod Enabled
 pub mod Says
