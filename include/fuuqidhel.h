@@ -31,7 +31,7 @@ extern "C" {
 enum {
     FUUQIDHEL_COMPILE_NUMBERS = 7,
     FUUQIDHEL_FIRE_NUMBERS = 2,
-    FUUQIDHEL_ENABLED_NUMBERS = 3,
+    FUUQIDHEL_ENABLED_NUMBERS = 4,
     FUUQIDHEL_REPLAY_NUMBERS = 4
 };
 
@@ -70,7 +70,9 @@ bool fuuqidhel_fire(const uint8_t *kinds, size_t kinds_length,
 
 /* Writes the numbers of the transitions whose input places are all marked to
  * the front of `list`, rising; on refusal nothing is written. Answer: refusal,
- * carried, how many, and 0 means that the net is stuck. Refusals: 30, 35, 14. */
+ * carried, how many, and 1 where the net is stuck: there are none, and some exit
+ * place is unmarked. Where there are none and all exit places are marked, the
+ * run is over, and both are 0. Refusals: 30, 35, 14. */
 bool fuuqidhel_enabled(const uint8_t *kinds, size_t kinds_length,
                        const uint16_t *rows, size_t rows_length,
                        const uint16_t *arcs, size_t arcs_length,

@@ -194,21 +194,26 @@ pub struct Replayed {
     pub finished: bool,
 }
 
-/// What the enabled list answers.
+/// What the enabled list answers. `T` tells the enabled transitions: how many
+/// are written where a list is lent, their numbers where [`Net`](crate::Net)
+/// makes one.
 #[derive(Clone, Copy, Debug, PartialEq, Eq, Hash)]
-pub enum Enabled {
-    /// So many transitions are enabled, and written.
-    Many(usize),
-    /// None is enabled.
+pub enum Enabled<T = usize> {
+    /// One or more transitions are enabled.
+    Many(T),
+    /// None is enabled, and some exit place is unmarked: the run cannot go on.
     Stuck,
+    /// None is enabled, and every exit place is marked: the run is over.
+    Finished,
 }
 
 impl Enabled {
-    /// How many transitions are enabled.
+    /// How many transitions are enabled. 0 does not say that the net is stuck:
+    /// the run may be over.
     pub const fn count(self) -> usize {
         match self {
             Enabled::Many(count) => count,
-            Enabled::Stuck => 0,
+            Enabled::Stuck | Enabled::Finished => 0,
         }
     }
 }

@@ -88,6 +88,11 @@ fn net_and_rules_agree() {
         if finished {
             assert!(marking[..net.entries + net.internals].iter().all(|token| *token == 0));
         }
+        // Once all exits are marked in a marking that is reached, nothing is
+        // enabled.
+        let mut list = vec![0; net.counts().transitions];
+        let listed = enabled(net.tables(), &marking, &mut list);
+        assert_eq!(listed == Ok(Enabled::Finished), finished, "{expr:?} {record:?}");
         if actions <= 6 {
             if let Some(other) = class::replay(&expr, &record, 400) {
                 assert_eq!(other, rules, "{expr:?} {record:?}");
@@ -231,7 +236,7 @@ fn near_the_limits() {
 #[test]
 fn other_tables() {
     let mut random = Random::new(3);
-    let mut summary = Summary::default();
+    let (mut summary, mut lists) = (Summary::default(), Summary::default());
     for _ in 0..40_000 {
         let net = random::any_net(&mut random);
         let transitions = plain::moved(&net);
@@ -260,12 +265,22 @@ fn other_tables() {
                 .map(|t| t as u16)
                 .collect();
             let count = ready.len();
-            let expected = if count == 0 { Enabled::Stuck } else { Enabled::Many(count) };
+            let (expected, heading) = match (count, net.is_finished(&marking)) {
+                (0, false) => (Enabled::Stuck, "stuck"),
+                (0, true) => (Enabled::Finished, "over"),
+                (_, false) => (Enabled::Many(count), "enabled"),
+                (_, true) => (Enabled::Many(count), "enabled, all exits marked"),
+            };
             assert_eq!(listed, Ok(expected));
+            lists.note(heading);
             assert_eq!(list[..count], ready);
             assert!(list[count..].iter().all(|n| *n == 777));
         }
         summary.answer(&answer, "fired");
     }
     summary.print("40000 steps on other tables:");
+    lists.print("and what is enabled there:");
+    for heading in ["stuck", "over", "enabled", "enabled, all exits marked"] {
+        assert!(lists.count(heading) > 0, "none is {heading}");
+    }
 }

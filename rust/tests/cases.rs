@@ -51,6 +51,7 @@ impl Lines {
         let line = answer.map(|enabled| match enabled {
             Enabled::Many(many) => format!("enabled {many}"),
             Enabled::Stuck => String::from("stuck"),
+            Enabled::Finished => String::from("enabled 0"),
         });
         self.add(title, line.map_err(refused));
     }

@@ -62,15 +62,26 @@ static void firing(void)
 static void listing(void)
 {
     static const uint8_t marking[] = {1, 1, 0, 0, 0};
+    static const uint8_t halfway[] = {0, 0, 1, 0, 0}, end[] = {0, 0, 0, 0, 1};
     uint16_t list[] = {7, 7, 7};
-    size_t answer[] = {5, 5, 5};
+    size_t answer[] = {5, 5, 5, 5, 5};
+    static const size_t untouched[] = {5, 5, 5, 5, 5}, room[] = {14, 0, 0, 0, 5};
+    static const size_t two[] = {0, 0, 2, 0, 5}, stuck[] = {0, 0, 0, 1, 5};
+    static const size_t over[] = {0, 0, 0, 0, 5};
 
-    expect(!fuuqidhel_enabled(NET, marking, 5, list, 3, answer, 2), "a short answer");
-    expect(fuuqidhel_enabled(NET, marking, 5, list, 1, answer, 3), "answered");
-    expect(answer[0] == 14 && answer[2] == 0 && list[0] == 7, "a short list is 14");
-    expect(fuuqidhel_enabled(NET, marking, 5, list, 3, answer, 3), "answered");
-    expect(answer[0] == 0 && answer[1] == 0 && answer[2] == 2, "two are enabled");
+    expect(FUUQIDHEL_ENABLED_NUMBERS == 4, "four numbers");
+    expect(!fuuqidhel_enabled(NET, marking, 5, list, 3, answer, 3), "a short answer");
+    expect(!memcmp(answer, untouched, sizeof answer), "a short answer is not touched");
+    expect(list[0] == 7, "a short answer touches no list");
+    expect(fuuqidhel_enabled(NET, marking, 5, list, 1, answer, 4), "answered");
+    expect(!memcmp(answer, room, sizeof answer) && list[0] == 7, "a short list is 14");
+    expect(fuuqidhel_enabled(NET, marking, 5, list, 3, answer, 4), "answered");
+    expect(!memcmp(answer, two, sizeof answer), "two are enabled");
     expect(list[0] == 0 && list[1] == 1 && list[2] == 7, "a and b are listed");
+    expect(fuuqidhel_enabled(NET, halfway, 5, list, 0, answer, 4), "answered");
+    expect(!memcmp(answer, stuck, sizeof answer), "none and the exit unmarked is stuck");
+    expect(fuuqidhel_enabled(NET, end, 5, list, 0, answer, 4), "answered");
+    expect(!memcmp(answer, over, sizeof answer), "none and the exit marked is not stuck");
 }
 
 static void replaying(void)

@@ -11,7 +11,7 @@ use fuuqidhel::paper::plan::Plan;
 use fuuqidhel::paper::record::{written, Item};
 use fuuqidhel::paper::replay::replay_on;
 use fuuqidhel::random::{self, Random, Shape};
-use fuuqidhel::{library, limit, paper, Counts, Made, Net, Reason, Stopped, Tables};
+use fuuqidhel::{library, limit, paper, Counts, Enabled, Made, Net, Reason, Stopped, Tables};
 
 /// What lies past a net's part, to be found again.
 const PAST: u8 = 7;
@@ -25,8 +25,12 @@ fn library_and_paper_agree() {
     firing(&mut random, &mut table, 60_000);
     listing(&mut random, &mut table, 40_000);
     table.print();
-    let missing: Vec<Reason> = Reason::ALL.into_iter().filter(|one| !table.has(*one)).collect();
+    let reasons = Reason::ALL.into_iter();
+    let missing: Vec<Reason> = reasons.filter(|one| !table.has_refusal(*one)).collect();
     assert_eq!(missing, []);
+    for answer in ["made", "finished", "unfinished", "fired", "enabled", "stuck", "over"] {
+        assert!(table.has(answer), "no input is answered {answer:?}");
+    }
     assert!(table.inputs() >= 200_000);
 }
 
@@ -205,7 +209,12 @@ fn listing(random: &mut Random, table: &mut Table, inputs: usize) {
         let answer = library::enabled(tables, &marking, &mut theirs);
         assert_eq!(answer, paper::enabled(tables, &marking, &mut ours), "{net:?} {marking:?}");
         assert_eq!(theirs, ours, "{net:?} {marking:?}");
-        let heading = |count| if count == 0 { "stuck" } else { "enabled" };
-        table.note("enabled", answer.map(|enabled| heading(enabled.count())));
+        let heading = |enabled| match enabled {
+            Enabled::Many(_) => "enabled",
+            Enabled::Stuck => "stuck",
+            // "finished" is the row of replay's answers.
+            Enabled::Finished => "over",
+        };
+        table.note("enabled", answer.map(heading));
     }
 }

@@ -166,9 +166,53 @@ fn enabled_list() {
     assert_eq!(list, &[0, 1, 2, 9]);
     let list = &mut [9; 4];
     assert_eq!(number(enabled(net.tables(), &[1, 1, 1, 1, 0], &mut list[..2])), Some((14, 0)));
-    assert_eq!(enabled(net.tables(), &[0, 0, 1, 0, 1, 9], &mut []), Ok(Enabled::Stuck));
+    assert_eq!(enabled(net.tables(), &[0, 0, 1, 0, 0, 9], &mut []), Ok(Enabled::Stuck));
+    assert_eq!(enabled(net.tables(), &[0, 0, 1, 0, 1, 9], &mut []), Ok(Enabled::Finished));
     assert_eq!(number(enabled(net.tables(), &[0, 0, 1, 0], &mut [])), Some((35, 0)));
+    assert_eq!(number(enabled(net.tables(), &[0, 0, 0, 0, 2], &mut [])), Some((35, 0)));
     assert_eq!(list, &[9; 4]);
+    assert_eq!(
+        [Enabled::Many(3), Enabled::Stuck, Enabled::Finished].map(Enabled::count),
+        [3, 0, 0]
+    );
+}
+
+/// Nothing is enabled: stuck with an exit unmarked, else the run is over.
+#[test]
+fn stuck_or_over() {
+    // Of a‖b both exits are reached; of (a sc a)‖b only that of b.
+    for (left, expected) in [
+        (act(1), [Enabled::Many(1), Enabled::Finished]),
+        (Expr::scope(1, act(1)), [Enabled::Stuck, Enabled::Stuck]),
+    ] {
+        let plan = par(left, act(2)).encode();
+        let net = net_of(&plan).unwrap();
+        assert_eq!(net.kinds, [1, 1, 3, 3]);
+        let (mut marking, mut list) = ([0; 4], [0; 2]);
+        let [a, b] = [0, 1].map(Item::one);
+        assert!(replay(&plan, &written(&[&[b]]), &mut marking).is_ok());
+        assert_eq!(marking, [1, 0, 0, 1]);
+        assert_eq!(enabled(net.tables(), &marking, &mut list), Ok(expected[0]));
+        let run = replay(&plan, &written(&[&[b], &[a]]), &mut marking);
+        assert_eq!(run.is_ok_and(|run| run.finished), expected[1] == Enabled::Finished);
+        assert_eq!(enabled(net.tables(), &marking, &mut list), Ok(expected[1]));
+    }
+    // Tables that no plan gives: 0→1 and 2→1, from an exit. Behind them lie
+    // an exit and a byte of the marking, which are not looked at.
+    let rows = [1, 0, 65_535, 0, 1, 1, 2, 1, 65_535, 2, 1, 1];
+    let counts = Counts { places: 4, transitions: 2, arcs: 4 };
+    let made = Tables { kinds: &[1, 3, 3, 3, 3], rows: &rows, arcs: &[0, 1, 2, 1], counts };
+    let listed = |marking: [u8; 5]| enabled(made, &marking, &mut [0; 2]);
+    assert_eq!(listed([0, 0, 0, 0, 0]), Ok(Enabled::Stuck));
+    assert_eq!(listed([0, 1, 0, 1, 1]), Ok(Enabled::Stuck));
+    assert_eq!(listed([0, 1, 1, 1, 0]), Ok(Enabled::Many(1)));
+    assert_eq!(listed([1, 1, 1, 1, 0]), Ok(Enabled::Many(2)));
+    let one = Counts { transitions: 1, arcs: 2, ..counts };
+    let listed = |marking: [u8; 5]| enabled(Tables { counts: one, ..made }, &marking, &mut []);
+    assert_eq!(listed([0, 1, 1, 0, 1]), Ok(Enabled::Stuck));
+    assert_eq!(listed([0, 0, 1, 1, 1]), Ok(Enabled::Stuck));
+    assert_eq!(listed([0, 1, 1, 1, 0]), Ok(Enabled::Finished));
+    assert_eq!(number(listed([1, 1, 1, 1, 0])), Some((14, 0)));
 }
 
 #[test]
@@ -214,5 +258,6 @@ fn no_net() {
     let nothing = Counts { places: 5, transitions: 0, arcs: 0 };
     let net = net();
     let bare = Tables { rows: &[], arcs: &[], counts: nothing, ..net.tables() };
-    assert_eq!(enabled(bare, &[1; 5], &mut []), Ok(Enabled::Stuck));
+    assert_eq!(enabled(bare, &[1, 1, 1, 1, 0], &mut []), Ok(Enabled::Stuck));
+    assert_eq!(enabled(bare, &[1; 5], &mut []), Ok(Enabled::Finished));
 }

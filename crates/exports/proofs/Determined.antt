@@ -77,7 +77,7 @@ enabled-export-answered = record { free = λ κs a. tt; one = one }
         let out = a .1 .1 .1 .1 .1 .1 .1 .0 .now in
         let old = a .1 .1 .1 .1 .1 .1 .1 .1 .0 .now in
         let e = enabled T (a .1 .1 .1 .1 .1 .1 .0 .now) out in
-        let b = leb 3 (length old) in
+        let b = leb 4 (length old) in
         record {
           some = ((b, (tt, (tt, (tt, (tt, (tt, (tt, (tt, (cond b (e .list) out, (cond b (told (enabled-tells (e .answer)) old) old, tt)))))))))), (refl, (refl, refl)));
           only = λ x y p q.

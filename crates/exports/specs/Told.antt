@@ -20,11 +20,11 @@ abbrev pub fire-tells : Answer (Unit {0}) → List ℕ
 fire-tells (good t) = 0 ∷ 0 ∷ []
 fire-tells (refused n c) = n ∷ c ∷ []
 
--- A list of none is 01's "stuck".
+-- How many, and 1 where the net is stuck.
 abbrev pub enabled-tells : Answer Enabling → List ℕ
-enabled-tells (good (enabling many)) = 0 ∷ 0 ∷ many ∷ []
-enabled-tells (good stuck) = 0 ∷ 0 ∷ 0 ∷ []
-enabled-tells (refused n c) = n ∷ c ∷ 0 ∷ []
+enabled-tells (good (enabling many)) = 0 ∷ 0 ∷ many ∷ 0 ∷ []
+enabled-tells (good stuck) = 0 ∷ 0 ∷ 0 ∷ 1 ∷ []
+enabled-tells (refused n c) = n ∷ c ∷ 0 ∷ 0 ∷ []
 
 -- The accepted steps, and 1 where all exit places are marked.
 abbrev pub replay-tells : Verdict → List ℕ

@@ -99,7 +99,7 @@ pub extern "C" fn fuuqidhel_fire(
     true
 }
 
-// Lists the enabled transitions. Three numbers: refusal, carried, how many; a list of none is 01's stuck.
+// Lists the enabled transitions. Four numbers: refusal, carried, how many, and 1 where the net is stuck.
 #[no_mangle]
 pub extern "C" fn fuuqidhel_enabled(
     kinds: &[u8],
@@ -112,11 +112,11 @@ pub extern "C" fn fuuqidhel_enabled(
     list: &mut [u16],
     answer: &mut [usize],
 ) -> bool
-    ensures room { λ r. ⌜ r ≡ leb 3 (length (now (answer .entry))) ⌝ }
+    ensures room { λ r. ⌜ r ≡ leb 4 (length (now (answer .entry))) ⌝ }
     ensures answer { λ r. ⌜ now (answer .exit) ≡ cond r (told (enabled-tells (Enabled.enabled (lent (now (kinds .entry)) (now (rows .entry)) (now (arcs .entry)) places transitions «arc_count») (now (marking .entry)) (now (list .entry)) .answer)) (now (answer .entry))) (now (answer .entry)) ⌝ }
     ensures list { λ r. ⌜ now (list .exit) ≡ cond r (Enabled.enabled (lent (now (kinds .entry)) (now (rows .entry)) (now (arcs .entry)) places transitions «arc_count») (now (marking .entry)) (now (list .entry)) .list) (now (list .entry)) ⌝ }
 {
-    if answer.len() < 3 {
+    if answer.len() < 4 {
         return false;
     }
     match step::enabled(
@@ -129,9 +129,9 @@ pub extern "C" fn fuuqidhel_enabled(
         marking,
         list,
     ) {
-        Enabling::Many(many) => tell(answer, &[0, 0, many]),
-        Enabling::Stuck => tell(answer, &[0, 0, 0]),
-        Enabling::Refused(number, carried) => tell(answer, &[number, carried, 0]),
+        Enabling::Many(many) => tell(answer, &[0, 0, many, 0]),
+        Enabling::Stuck => tell(answer, &[0, 0, 0, 1]),
+        Enabling::Refused(number, carried) => tell(answer, &[number, carried, 0, 0]),
     }
     true
 }

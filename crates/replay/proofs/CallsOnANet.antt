@@ -2,23 +2,27 @@
 -- and 36 never come. The tables pass check 30, a reached marking has at most one token at every place, and what does not fire is refused with 31, 32 or 33.
 use Prim.Native.Nat.{ℕ, _+_, _≤_}
 use native.Mathlib.Omega.{arith}
-use mathlib.Core.Path.{_≡_, refl, sym, _∙_, ap, subst}
+use mathlib.Core.Path.{_≡_, refl, sym, _∙_, ap, ap₂, subst}
+use mathlib.Core.Bool.{true}
 use mathlib.Core.Logic.{_⊎_}
 use mathlib.Core.List.{List, [], _∷_, _++_}
-use lib.ListN.{length, take, length-append}
-use lib.Seq.{take-at}
+use lib.ListN.{length, take, drop, replicate, length-append, length-drop, length-replicate}
+use lib.Seq.{take-at, drop-drop}
 use lib.Dec.{T, leb, le→leb}
+use contract.Lifetimes.{Lfts}
+use borrow.Fn.Kinds.{Dens}
 use Rattle.field.specs.Refusals.{table-too-short, no-transition, input-empty, input-shared}
 use Rattle.field.specs.Answer.{Answer, good, refused, _>>=_, check}
 use Rattle.field.specs.Lists.{all}
 use Rattle.field.proofs.Tests.{T-true}
+use Rattle.field.proofs.OneResult.{Result, Allowed}
 use Rattle.algebra.specs.Expr.{Expr}
 use Rattle.algebra.specs.Item.{Item}
 use Rattle.algebra.specs.Exclusive.{LoopsExclusive}
 use Rattle.algebra.specs.Scopes.{ScopesNamed}
-use Rattle.algebra.specs.Net.{place-count}
+use Rattle.algebra.specs.Net.{Net, place-count}
 use Rattle.algebra.specs.Arcs.{net-of}
-use Rattle.algebra.specs.Marking.{entry-marking}
+use Rattle.algebra.specs.Marking.{entry-marking, exits-marked}
 use Rattle.algebra.specs.Firing.{fire-items, enabled-from}
 use Rattle.algebra.specs.InOrder.{fire-in-order}
 use Rattle.algebra.proofs.Marks.{marking-of, marking-length}
@@ -27,7 +31,8 @@ use Rattle.plan.proofs.Exact.{read-within}
 use Rattle.plan.proofs.Within.{limits-within}
 use Rattle.plan.proofs.Scopes.{named-scopes}
 use Rattle.plan.proofs.Loops.{loops-exclusive}
-use Rattle.net.specs.Tables.{Tables, transitions-in}
+use Rattle.net.specs.Tables.{Tables, kinds-of, transitions-in}
+use Rattle.net.specs.Lent.{lent}
 use Rattle.net.specs.Marking.{check-marking}
 use Rattle.net.specs.Check.{check-net}
 use Rattle.net.proofs.ReadTables.{lent-tables}
@@ -36,7 +41,12 @@ use Rattle.boxes.proofs.CountsCutOff.{net-places}
 use Rattle.boxes.proofs.TablesAreANet.{accepted, lent-tables-are-a-net, lent-tables-are-the-net}
 use Rattle.step.specs.Form.{read-lent-step}
 use Rattle.step.specs.Fire.{fire-step}
-use Rattle.step.specs.Enabled.{list-enabled}
+use Rattle.step.specs.Enabled.{list-enabled, exits-hold, Enabled, enabling, enabled}
+use Rattle.step.specs.declared.Enabling.the-variants.{Many}
+use Rattle.step.proofs.enabled.Kinds as call
+use Rattle.step.proofs.enabled.Reads as reads
+use Rattle.step.proofs.Determined.{enabling-once}
+use Rattle.step.proofs.ExitsHold.{others-passed, last-hold}
 
 module _ (plan : List ℕ) (E : Expr) (yes-plan : accept plan ≡ good E) (R : List (List Item)) (m : List ℕ) (reached : fire-in-order (net-of E .transitions) (entry-marking (net-of E)) R ≡ good m)
     (kinds rows arcs rest : List ℕ) where
@@ -82,3 +92,41 @@ module _ (plan : List ℕ) (E : Expr) (yes-plan : accept plan ≡ good E) (R : L
   enabled-on-the-net out =
       rw (lent-tables-are-a-net plan E yes-plan kinds rows arcs)
       (rw marking-passes (rw (front, lent-tables-are-the-net plan E yes-plan kinds rows arcs) refl))
+
+  -- 02, K2: with every exit marked the kinds of the lent tables say so.
+  exits-told : T (exits-marked (net-of E) m) → exits-hold (take (place-count (net-of E)) (tables .kinds)) (take (place-count (net-of E)) (m ++ rest)) ≡ true
+  unfolding exits-marked kinds-of
+  exits-told h =
+      let N : Net = net-of E in
+      let one : List ℕ = replicate (N .entries) 1 in
+      let two : List ℕ = replicate (N .internals) 2 in
+      let three : List ℕ = replicate (N .exits) 3 in
+      let tl : length three ≡ N .exits = length-replicate (N .exits) 3 in
+      let ol : length one ≡ N .entries = length-replicate (N .entries) 1 in
+      let wl : length two ≡ N .internals = length-replicate (N .internals) 2 in
+      let kl : length (two ++ three) ≡ N .internals + N .exits = omega (arith, length-append two three) in
+      let long : length (kinds-of N) ≡ place-count N = omega (arith, length-append one (two ++ three)) in
+      ap₂ exits-hold (take-at (kinds-of N) kinds (place-count N) long) front
+      ∙ others-passed 1 (N .entries) (two ++ three) m (λ e. omega arith) (omega (arith, kl, reached-length))
+      ∙ others-passed 2 (N .internals) three (drop (N .entries) m) (λ e. omega arith) (omega (arith, length-drop (N .entries) m, reached-length))
+      ∙ ap (exits-hold three) (drop-drop (N .internals) (N .entries) m)
+      ∙ last-hold (N .exits) (drop (N .entries + N .internals) m) (omega (arith, length-drop (N .entries + N .internals) m, reached-length))
+      ∙ T-true (all (λ x. leb 1 x) (drop (N .entries + N .internals) m)) h
+
+  -- "in a marking reached in a replay with all exits marked no transition is enabled": the list answers 0, is not stuck, and nothing is written.
+  pub finished-not-stuck : T (exits-marked (net-of E) m) → (out : List ℕ) → enabled tables (m ++ rest) out ≡ record { answer = good (enabling 0); list = out }
+  unfolding enabled
+  finished-not-stuck h out =
+      let none : enabled-from 0 m (net-of E .transitions) ≡ [] = safe-and-clean E exclusive scopes R m reached .stuck h in
+      let room : leb 0 (length out) ≡ true = T-true (leb 0 (length out)) (le→leb 0 (length out) (omega arith)) in
+      rw (exits-told h, enabled-on-the-net out, none, room) refl
+
+  -- The same of the call: any answer and any list at exit that its contract allows, on these tables and this marking.
+  module _ (κs : Lfts 5) (a : Dens κs call.ps) (z : Result 5 call.ps call.r κs a) (allowed : Allowed 5 call.ps call.r reads.Post κs a z)
+      (its-tables : lent (a .0 .now) (a .1 .0 .now) (a .1 .1 .0 .now) (a .1 .1 .1 .0) (a .1 .1 .1 .1 .0) (a .1 .1 .1 .1 .1 .0) ≡ tables) (its-marking : a .1 .1 .1 .1 .1 .1 .0 .now ≡ m ++ rest) where
+    pub call-finished-not-stuck : T (exits-marked (net-of E) m) → (z .0 ≡ Many 0) × (z .1 .1 .1 .1 .1 .1 .1 .1 .0 ≡ a .1 .1 .1 .1 .1 .1 .1 .0 .now)
+    call-finished-not-stuck h =
+        let out = a .1 .1 .1 .1 .1 .1 .1 .0 .now in
+        let e : enabled (lent (a .0 .now) (a .1 .0 .now) (a .1 .1 .0 .now) (a .1 .1 .1 .0) (a .1 .1 .1 .1 .0) (a .1 .1 .1 .1 .1 .0)) (a .1 .1 .1 .1 .1 .1 .0 .now) out ≡ record { answer = good (enabling 0); list = out } =
+        ap₂ (λ t l. enabled t l out) its-tables its-marking ∙ finished-not-stuck h out in
+        (enabling-once (z .0) (Many 0) (allowed .0 ∙ ap (λ (r : Enabled). r .answer) e), allowed .1 ∙ ap (λ (r : Enabled). r .list) e)

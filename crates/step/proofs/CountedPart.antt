@@ -21,7 +21,7 @@ use Rattle.net.proofs.CountedPart.{Agree, reaches-same, net-same, transitions-s
 use Rattle.net.proofs.Marking.{marking-passed}
 use Rattle.step.specs.Form.{read-lent-step}
 use Rattle.step.specs.Fire.{fire-step, fired, fire}
-use Rattle.step.specs.Enabled.{list-enabled, listed, enabled}
+use Rattle.step.specs.Enabled.{list-enabled, listed, exits-hold, enabled}
 use Rattle.step.proofs.Bools.{test}
 
 -- Check 35 asks of a marking only its first bytes.
@@ -94,4 +94,7 @@ fire-behind T m s = go (fire-step T m s) refl
 
 pub enabled-same : (T T′ : Tables) → Agree T T′ → (m m′ out : List ℕ) → take (T .places) m ≡ take (T .places) m′ → enabled T m out ≡ enabled T′ m′ out
 unfolding enabled
-enabled-same T T′ agree m m′ out same = ap (listed out) (list-same T T′ agree m m′ same out)
+enabled-same T T′ agree m m′ out same =
+    ap₂ (λ b a. listed b out a)
+    (ap₂ exits-hold (agree .kinds ∙ ap (λ n. take n (T′ .kinds)) (agree .places)) (same ∙ ap (λ n. take n m′) (agree .places)))
+    (list-same T T′ agree m m′ same out)

@@ -31,7 +31,7 @@ fired-once fired.Done (fired.Refused n c) e = good-not-refused (good tt) tt n c 
 fired-once (fired.Refused n c) fired.Done e = good-not-refused (good tt) tt n c refl (sym e)
 fired-once (fired.Refused n c) (fired.Refused k d) e = two-refusals {A = Unit {0}} fired.Refused n c k d e
 
-enabling-once : (r q : Enabling) → enabling-says r ≡ enabling-says q → r ≡ q
+pub enabling-once : (r q : Enabling) → enabling-says r ≡ enabling-says q → r ≡ q
 enabling-once (enabling.Many n) (enabling.Many k) e = let p : n ≡ k = cc in λ i. enabling.Many (p i)
 enabling-once (enabling.Many n) enabling.Stuck e = absurd (let z : _≡_ {A = ℕ} 0 1 = cc in let w : ⊥ = omega arith in w)
 enabling-once (enabling.Many n) (enabling.Refused k d) e = good-not-refused (good (spec.enabling n)) (spec.enabling n) k d refl e

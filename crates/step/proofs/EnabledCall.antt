@@ -17,11 +17,11 @@ use Rattle.algebra.specs.Net.{Transition}
 use Rattle.net.specs.Tables.{Tables, transitions-in}
 use Rattle.net.specs.Check.{is-net, check-net}
 use Rattle.net.specs.Marking.{check-marking}
-use Rattle.step.specs.Enabled.{list-enabled, listed, how-many, enabled, enabling}
+use Rattle.step.specs.Enabled.{list-enabled, listed, exits-hold, how-many, enabled, enabling}
 use Rattle.step.specs.inner.Naming.{transitions-within}
 use Rattle.step.specs.Says.{enabling-says}
 use Rattle.step.specs.declared.Enabling.{Enabling}
-use Rattle.step.specs.declared.Enabling.the-variants.{Many, Stuck, Refused}
+use Rattle.step.specs.declared.Enabling.the-variants.{Many, Refused}
 use Rattle.step.proofs.NetInOrder.{transitions-lent}
 
 abbrev pub Lists : Enabling → List ℕ → Tables → List ℕ → List ℕ → Type 0
@@ -69,20 +69,23 @@ module _ (tables : Tables) (m out : List ℕ) where
         written : exit ≡ numbers ++ drop (length numbers) out
         written = w ∙ ap (sets out 0) same ∙ sets-front numbers out (leb-true (length numbers) (length out) (sym room-is ∙ h))
 
-        list-told : (r : Enabling) → enabling-says r ≡ good (how-many numbers) → Lists r exit tables m out
+        abbrev exits : Bool
+        exits = exits-hold (take (tables .places) (tables .kinds)) (take (tables .places) m)
+
+        list-told : (r : Enabling) → enabling-says r ≡ good (how-many exits numbers) → Lists r exit tables m out
         unfolding enabled
         list-told r x = (x ∙ rw (← good-list), written ∙ rw (← good-list))
 
-        pub stuck-lent : many ≡ 0 → Lists Stuck exit tables m out
-        stuck-lent z = list-told Stuck (go numbers (sym many-is ∙ z))
+        pub none-lent : many ≡ 0 → (r : Enabling) → enabling-says r ≡ good (how-many exits []) → Lists r exit tables m out
+        none-lent z r x = list-told r (go numbers (sym many-is ∙ z))
           where
-            go : (l : List ℕ) → length l ≡ 0 → enabling-says Stuck ≡ good (how-many l)
-            go [] z = refl
-            go (x ∷ l) z = absurd (omega arith)
+            go : (l : List ℕ) → length l ≡ 0 → enabling-says r ≡ good (how-many exits l)
+            go [] z = x
+            go (y ∷ l) z = absurd (omega arith)
 
         pub many-lent : (many ≡ 0 → ⊥) → Lists (Many many) exit tables m out
         many-lent z = list-told (Many many) (go numbers many-is)
           where
-            go : (l : List ℕ) → many ≡ length l → enabling-says (Many many) ≡ good (how-many l)
+            go : (l : List ℕ) → many ≡ length l → enabling-says (Many many) ≡ good (how-many exits l)
             go [] y = absurd (z y)
             go (x ∷ l) y = ap (λ (n : ℕ). good (enabling n)) y

@@ -29,6 +29,10 @@ arcs = 0 ∷ 2 ∷ 1 ∷ 3 ∷ 0 ∷ 1 ∷ 2 ∷ 3 ∷ 2 ∷ 2 ∷ 3 ∷ 2 ∷ 4
 abbrev net : Tables
 net = lent (1 ∷ 1 ∷ 2 ∷ 2 ∷ 2 ∷ 3 ∷ 9 ∷ []) rows arcs 6 7 17
 
+-- one transition, from the entry 0 to the exits 1 and 2
+abbrev two-exits : Tables
+two-exits = lent (1 ∷ 3 ∷ 3 ∷ []) (1 ∷ 0 ∷ 65535 ∷ 0 ∷ 1 ∷ 2 ∷ []) (0 ∷ 1 ∷ 2 ∷ []) 3 1 3
+
 -- the same with no exit: no net
 abbrev no-net : Tables
 no-net = lent (1 ∷ 1 ∷ 2 ∷ 2 ∷ 2 ∷ 2 ∷ 9 ∷ []) rows arcs 6 7 17
@@ -143,9 +147,15 @@ known-listed =
     ∷ list net (marking 0 0 1 1 1 0) nines (good (enabling 3)) (3 ∷ 4 ∷ 5 ∷ 9 ∷ 9 ∷ [])
     -- a list with just the room
     ∷ list net entry (9 ∷ 9 ∷ 9 ∷ 9 ∷ []) (good (enabling 4)) (0 ∷ 1 ∷ 2 ∷ 6 ∷ [])
-    -- "and says stuck when there are none", with room and with none
-    ∷ list net (marking 0 0 0 0 0 1) nines (good stuck) nines
-    ∷ list net (marking 0 0 0 0 0 1) [] (good stuck) []
+    -- 02, K2: "nothing is enabled and some exit place is unmarked" is stuck; with every exit marked it is 0 and not stuck
+    ∷ list net (marking 0 0 0 0 0 0) nines (good stuck) nines
+    ∷ list net (marking 0 0 0 0 0 0) [] (good stuck) []
+    ∷ list net (marking 0 0 0 0 0 1) nines (good (enabling 0)) nines
+    ∷ list net (marking 0 0 0 0 0 1) [] (good (enabling 0)) []
+    -- one of two exits is not enough, whichever it is
+    ∷ list two-exits (0 ∷ 1 ∷ 0 ∷ []) nines (good stuck) nines
+    ∷ list two-exits (0 ∷ 0 ∷ 1 ∷ []) nines (good stuck) nines
+    ∷ list two-exits (0 ∷ 1 ∷ 1 ∷ []) nines (good (enabling 0)) nines
     -- 30 before 35 and 14
     ∷ list no-net (1 ∷ 1 ∷ []) [] (refused 30 0) []
     ∷ list no-net entry (9 ∷ []) (refused 30 0) (9 ∷ [])

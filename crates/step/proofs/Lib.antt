@@ -14,6 +14,7 @@ pub mod NetInOrder
 pub mod FireCall
 pub mod EnabledTurns
 pub mod Checked
+pub mod ExitsHold
 pub mod EnabledCall
 pub mod Determined
 pub mod CountedPart

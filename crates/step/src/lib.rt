@@ -92,7 +92,7 @@ pub fn enabled(
     }
     let many = listing::write(rows, arcs, tokens, transitions, out);
     if many == 0 {
-        return Enabling::Stuck;
+        return listing::when_none(&kinds[..places], tokens);
     }
     Enabling::Many(many)
 }

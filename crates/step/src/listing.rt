@@ -6,10 +6,17 @@ ghost use lib.ListN.{length};
 ghost use lib.Seq.{sets};
 ghost use lib.Dec.{leb};
 ghost use Rattle.field.specs.Lists.{all};
+ghost use mathlib.Core.List.{[]};
+ghost use Rattle.field.specs.Answer.{good};
 ghost use Rattle.algebra.specs.Firing.{marked, enabled-from};
+ghost use Rattle.step.specs.Enabled.{exits-hold, how-many};
+ghost use Rattle.step.specs.Says.{enabling-says};
 ghost use Rattle.step.specs.inner.Moving.{Fits};
 ghost use Rattle.step.specs.inner.Naming.{transition-in, transitions-within, InOrder};
+use crate::Enabling;
 use crate::moving;
+
+const EXIT: u8 = 3;
 
 // All input places of transition t are marked.
 fn is_marked(rows: &[u16], arcs: &[u16], marking: &[u8], t: usize) -> bool
@@ -76,4 +83,34 @@ pub fn write(
         }
     }
     many
+}
+
+// Every exit place is marked.
+fn exits_hold(kinds: &[u8], marking: &[u8]) -> bool
+    requires { ⌜ length (now kinds) ≡ length (now marking) ⌝ }
+    ensures { λ r. ⌜ r ≡ exits-hold (now (kinds .entry)) (now (marking .entry)) ⌝ }
+{
+    let mut i: usize = 0;
+    while i < kinds.len() {
+        if kinds[i] == EXIT {
+            if marking[i] == 0 {
+                return false;
+            }
+            i += 1;
+        } else {
+            i += 1;
+        }
+    }
+    true
+}
+
+// What is answered where nothing is enabled: a run that is over is not stuck.
+pub fn when_none(kinds: &[u8], marking: &[u8]) -> Enabling
+    requires { ⌜ length (now kinds) ≡ length (now marking) ⌝ }
+    ensures { λ r. ⌜ enabling-says r ≡ good (how-many (exits-hold (now (kinds .entry)) (now (marking .entry))) []) ⌝ }
+{
+    if exits_hold(kinds, marking) {
+        return Enabling::Many(0);
+    }
+    Enabling::Stuck
 }

@@ -2,13 +2,13 @@
 //! them. No call panics, whatever it is lent, and none allocates but `Net`'s.
 //!
 //! ```
-//! use fuuqidhel::{library, Net, Reason};
+//! use fuuqidhel::{library, Enabled, Net, Reason};
 //!
 //! // (a‖b);c
 //! let plan = [2, 0, 15, 4, 0, 8, 1, 0, 1, 1, 1, 0, 1, 2, 1, 0, 1, 3];
 //! let net = Net::compile(&plan)?;
 //! let mut marking = net.entry_marking();
-//! assert_eq!(net.enabled(&marking)?, [0, 1]);
+//! assert_eq!(net.enabled(&marking)?, Enabled::Many(vec![0, 1]));
 //!
 //! let c = [0x20, 0, 4, 0x21, 0, 1, 2];
 //! let refused = net.fire(&c, &mut marking).unwrap_err();
@@ -18,6 +18,7 @@
 //! net.fire(&both, &mut marking)?;
 //! net.fire(&c, &mut marking)?;
 //! assert!(net.is_finished(&marking));
+//! assert_eq!(net.enabled(&marking)?, Enabled::Finished);
 //!
 //! let run = library::replay(&plan, &[&both[..], &c].concat(), &mut marking)?;
 //! assert_eq!((run.steps, run.finished), (2, true));
@@ -55,9 +56,14 @@ pub fn fire(tables: Tables<'_>, step: &[u8], marking: &mut [u8]) -> Result<(), R
 /// Writes the numbers of the enabled transitions to the front of `list`,
 /// rising. Nothing is written on refusal, nor behind the list.
 pub fn enabled(tables: Tables<'_>, marking: &[u8], list: &mut [u16]) -> Result<Enabled, Refused> {
-    let [number, carried, count] = raw::enabled(tables, marking, list);
+    let [number, carried, count, stuck] = raw::enabled(tables, marking, list);
     accepted(number, carried)?;
-    Ok(if count == 0 { Enabled::Stuck } else { Enabled::Many(count) })
+    debug_assert!(count == 0 || stuck == 0, "the library says stuck of a list of none");
+    Ok(match count {
+        0 if stuck == 1 => Enabled::Stuck,
+        0 => Enabled::Finished,
+        _ => Enabled::Many(count),
+    })
 }
 
 /// Replays a record from a plan's entry marking. The marking afterwards is the
@@ -98,11 +104,17 @@ impl Net {
         fire(self.tables(), step, marking)
     }
 
-    /// The numbers of the enabled transitions, rising; none where it is stuck.
-    pub fn enabled(&self, marking: &[u8]) -> Result<Vec<u16>, Refused> {
+    /// The numbers of the enabled transitions, rising; where there are none,
+    /// whether the net is stuck or the run is over.
+    pub fn enabled(&self, marking: &[u8]) -> Result<Enabled<Vec<u16>>, Refused> {
         let mut list = vec![0; self.counts().transitions];
-        let count = enabled(self.tables(), marking, &mut list)?.count();
-        list.truncate(count);
-        Ok(list)
+        Ok(match enabled(self.tables(), marking, &mut list)? {
+            Enabled::Many(count) => {
+                list.truncate(count);
+                Enabled::Many(list)
+            }
+            Enabled::Stuck => Enabled::Stuck,
+            Enabled::Finished => Enabled::Finished,
+        })
     }
 }

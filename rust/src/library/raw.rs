@@ -118,9 +118,9 @@ pub fn fire(tables: Tables<'_>, step: &[u8], marking: &mut [u8]) -> [usize; 2] {
     answer
 }
 
-/// Number, carried, how many.
-pub fn enabled(tables: Tables<'_>, marking: &[u8], list: &mut [u16]) -> [usize; 3] {
-    let mut answer = [0; 3];
+/// Number, carried, how many, 1 where stuck.
+pub fn enabled(tables: Tables<'_>, marking: &[u8], list: &mut [u16]) -> [usize; 4] {
+    let mut answer = [0; 4];
     // SAFETY: as in `compile`.
     let told = unsafe {
         c::fuuqidhel_enabled(

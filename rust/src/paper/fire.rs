@@ -4,7 +4,7 @@ use super::check::{self, Index};
 use super::record::{Item, Step, ITEMS};
 use crate::answer::{Enabled, Reason, Refused};
 use crate::limit;
-use crate::tables::{transition, Tables};
+use crate::tables::{transition, Tables, EXIT};
 
 /// Fires one step field: 30, 35, step form (carrying 0), 31, 32, 33, 36.
 /// Nothing is written on refusal.
@@ -18,7 +18,8 @@ pub fn fire(tables: Tables<'_>, field: &[u8], marking: &mut [u8]) -> Result<(), 
 }
 
 /// Writes the enabled transitions into `list`, rising: 30, 35, 14. Nothing is
-/// written on refusal.
+/// written on refusal. The net is stuck where there are none and some exit
+/// place is unmarked.
 pub fn enabled(tables: Tables<'_>, marking: &[u8], list: &mut [u16]) -> Result<Enabled, Refused> {
     check::net(&tables)?;
     let marking = check::marking(&tables.counts, marking)?;
@@ -35,7 +36,14 @@ pub fn enabled(tables: Tables<'_>, marking: &[u8], list: &mut [u16]) -> Result<E
         return Err(Refused::plain(Reason::TableTooShort));
     };
     room.copy_from_slice(&found[..count]);
-    Ok(if count == 0 { Enabled::Stuck } else { Enabled::Many(count) })
+    if count > 0 {
+        return Ok(Enabled::Many(count));
+    }
+    // The marking has a byte for each place and none behind, so no more kinds
+    // are looked at.
+    let unmarked_exit = |(kind, token): (&u8, &u8)| *kind == EXIT && *token == 0;
+    let stuck = tables.kinds.iter().zip(marking).any(unmarked_exit);
+    Ok(if stuck { Enabled::Stuck } else { Enabled::Finished })
 }
 
 /// Room for the transitions that a step's items name.

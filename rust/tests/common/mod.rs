@@ -98,8 +98,12 @@ impl Table {
         *self.0.entry(heading).or_default().entry(call).or_insert(0) += 1;
     }
 
-    pub fn has(&self, reason: Reason) -> bool {
-        self.0.contains_key(&refusal(reason))
+    pub fn has(&self, heading: &str) -> bool {
+        self.0.contains_key(heading)
+    }
+
+    pub fn has_refusal(&self, reason: Reason) -> bool {
+        self.has(&refusal(reason))
     }
 
     pub fn inputs(&self) -> usize {

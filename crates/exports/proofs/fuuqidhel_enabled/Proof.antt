@@ -1,4 +1,4 @@
--- `fuuqidhel_enabled`: what `step::enabled` answers, told in three numbers, and its list.
+-- `fuuqidhel_enabled`: what `step::enabled` answers, told in four numbers, and its list.
 -- Assumes nothing.
 use mathlib.Core.Path.{refl, sym}
 use borrow.Author.Needs.{needs}

@@ -9,9 +9,10 @@ use lib.Seq.{length-take-le}
 use lib.Dec.{leb}
 use Rattle.field.specs.Lists.{all}
 use Rattle.net.specs.Lent.{lent}
+use Rattle.net.proofs.NetTests.{net-reaches}
 use Rattle.step.specs.inner.Naming.{InOrder}
 use Rattle.step.proofs.Checked.{marking-good, lent-order}
-use Rattle.step.proofs.EnabledCall.{no-net-lent, no-marking-lent, no-room-lent, stuck-lent, many-lent}
+use Rattle.step.proofs.EnabledCall.{no-net-lent, no-marking-lent, no-room-lent, none-lent, many-lent}
 use Rattle.step.proofs.enabled.Statement.{statement}
 use Rattle.step.proofs.enabled.Tie as tie
 use Rattle.step.proofs.enabled.Reads as reads
@@ -20,10 +21,11 @@ use Rattle.net.proofs.is_net.Reads as is-net-reads
 use Rattle.net.proofs.tokens.is_marking.Reads as is-marking-reads
 use Rattle.step.proofs.listing.fit.Reads as fit-reads
 use Rattle.step.proofs.listing.write.Reads as write-reads
+use Rattle.step.proofs.listing.when_none.Reads as when-none-reads
 
 -- where both checks were passed
 abbrev Passed : Type 0
-Passed = lts.After-tokens (is-net-reads.Asked, is-net-reads.Learnt, is-marking-reads.Asked, is-marking-reads.Learnt, fit-reads.Asked, fit-reads.Learnt, write-reads.Asked, write-reads.Learnt) reads.Pre reads.Post
+Passed = lts.After-tokens (is-net-reads.Asked, is-net-reads.Learnt, is-marking-reads.Asked, is-marking-reads.Learnt, fit-reads.Asked, fit-reads.Learnt, write-reads.Asked, write-reads.Learnt, when-none-reads.Asked, when-none-reads.Learnt) reads.Pre reads.Post
 
 marked : (c : Passed) → (c .before .before .before .before .before .before .before .before .before .before .args .places ≤ length (c .before .before .before .before .before .before .before .before .before .before .args .marking .now)) × (all (λ x. leb x 1) (take (c .before .before .before .before .before .before .before .before .before .before .args .places) (c .before .before .before .before .before .before .before .before .before .before .args .marking .now)) ≡ true)
 marked c = marking-good (c .before .before .before .before .before .before .before .before .before .before .args .places) (c .before .before .before .before .before .before .before .before .before .before .args .marking .now) (c .before .before .is-marking .result) (c .before .before .is-marking .ensures) (not-false (c .before .before .is-marking .result) (c .before .if2 .left))
@@ -32,6 +34,11 @@ order : (c : Passed) → InOrder (c .before .before .before .before .before .bef
 order c =
     let a = c .before .before .before .before .before .before .before .before .before .before .args in
     lent-order (a .kinds .now) (a .rows .now) (a .arcs .now) (a .places) (a .transitions) (a .arc-count) (a .marking .now) (c .before .before .before .before .is-net .result) (c .before .before .before .before .is-net .ensures) (not-false (c .before .before .before .before .is-net .result) (c .before .before .before .if1 .left)) (marked c .0)
+
+reach : (c : Passed) → c .before .before .before .before .before .before .before .before .before .before .args .places ≤ length (c .before .before .before .before .before .before .before .before .before .before .args .kinds .now)
+reach c =
+    let a = c .before .before .before .before .before .before .before .before .before .before .args in
+    net-reaches (lent (a .kinds .now) (a .rows .now) (a .arcs .now) (a .places) (a .transitions) (a .arc-count)) (sym (c .before .before .before .before .is-net .ensures) ∙ not-false (c .before .before .before .before .is-net .result) (c .before .before .before .if1 .left)) .0
 
 pub enabled-spec : {M : Type 1} → statement M
 enabled-spec =
@@ -53,11 +60,13 @@ enabled-spec =
     no-room-lent (lent (a .kinds .now) (a .rows .now) (a .arcs .now) (a .places) (a .transitions) (a .arc-count)) (a .marking .now) (a .out .now) (p .before .before .before .before .is-net .result) (p .before .before .before .before .is-net .ensures) (not-false (p .before .before .before .before .is-net .result) (p .before .before .before .if1 .left))
     (p .before .before .is-marking .result) (p .before .before .is-marking .ensures) (not-false (p .before .before .is-marking .result) (p .before .if2 .left)) (c .before .fit .result) (c .before .fit .ensures) (not-true (c .before .fit .result) (c .if3 .taken)))
     (λ c κs. (order (c .before .before .before), (marked (c .before .before .before) .1, leb-true _ _ (sym (c .before .before .fit .ensures) ∙ not-false (c .before .before .fit .result) (c .before .if3 .left)))))
+    (λ c. sym (length-take-le _ _ (reach (c .before .before .before .before .before .before .before .before))))
+    (λ c κs. length-take-le _ _ (reach (c .before .before .before .before .before .before .before .before)) ∙ sym (length-take-le _ _ (marked (c .before .before .before .before .before .before .before .before) .0)))
     (λ c. search needs)
     (λ c.
-    let p = c .before .before .before .before .before .before .before in let a = p .before .before .before .before .before .before .before .before .before .before .args in
-    stuck-lent (lent (a .kinds .now) (a .rows .now) (a .arcs .now) (a .places) (a .transitions) (a .arc-count)) (a .marking .now) (a .out .now) (p .before .before .before .before .is-net .result) (p .before .before .before .before .is-net .ensures) (not-false (p .before .before .before .before .is-net .result) (p .before .before .before .if1 .left))
-    (p .before .before .is-marking .result) (p .before .before .is-marking .ensures) (not-false (p .before .before .is-marking .result) (p .before .if2 .left)) (c .before .before .before .before .before .before .fit .result) (c .before .before .before .before .before .before .fit .ensures) (not-false (c .before .before .before .before .before .before .fit .result) (c .before .before .before .before .before .if3 .left)) (c .before .before .before .write .result) _ (c .before .before .before .write .ensures .0) (c .before .before .before .write .ensures .1) (c .if4 .taken))
+    let p = c .before .before .before .before .before .before .before .before .before in let a = p .before .before .before .before .before .before .before .before .before .before .args in
+    none-lent (lent (a .kinds .now) (a .rows .now) (a .arcs .now) (a .places) (a .transitions) (a .arc-count)) (a .marking .now) (a .out .now) (p .before .before .before .before .is-net .result) (p .before .before .before .before .is-net .ensures) (not-false (p .before .before .before .before .is-net .result) (p .before .before .before .if1 .left))
+    (p .before .before .is-marking .result) (p .before .before .is-marking .ensures) (not-false (p .before .before .is-marking .result) (p .before .if2 .left)) (c .before .before .before .before .before .before .before .before .fit .result) (c .before .before .before .before .before .before .before .before .fit .ensures) (not-false (c .before .before .before .before .before .before .before .before .fit .result) (c .before .before .before .before .before .before .before .if3 .left)) (c .before .before .before .before .before .write .result) _ (c .before .before .before .before .before .write .ensures .0) (c .before .before .before .before .before .write .ensures .1) (c .before .before .if4 .taken) (c .when-none .result) (c .when-none .ensures))
     (λ c. search needs)
     (λ c.
     let p = c .before .before .before .before .before .before .before in let a = p .before .before .before .before .before .before .before .before .before .before .args in
