@@ -7,12 +7,9 @@ use Rattle.boxes.specs.Compile.{Counts, Lent}
 use Rattle.compile.specs.declared.Compiling.{Compiling}
 use Rattle.compile.specs.declared.Compiling.the-variants as compiling
 
-abbrev pub counts : ℕ → ℕ → ℕ → ℕ → ℕ → Counts
-counts places transitions arcs entries internals = record { places = places; transitions = transitions; arcs = arcs; entries = entries; internals = internals }
-
 abbrev pub compiling-says : Compiling → Answer Counts
 compiling-says (compiling.Refused number carried) = refused number carried
-compiling-says (compiling.Made places transitions arcs entries internals) = good (counts places transitions arcs entries internals)
+compiling-says (compiling.Made places transitions arcs entries internals) = good (record { places = places; transitions = transitions; arcs = arcs; entries = entries; internals = internals })
 
 abbrev pub three-lent : List ℕ → List ℕ → List ℕ → Lent
 three-lent kinds rows arcs = record { kinds = kinds; rows = rows; arcs = arcs }

@@ -1,3 +1,1 @@
-pub mod Judged
-pub mod Ready
-pub mod Judging
+pub mod Leaves

@@ -1,15 +1,17 @@
-// 01, "Net tables": the compile call, from the plan to the three three-lent tables. It judges first and then writes: each row and each arc once,
+// 01, "Net tables": the compile call, from the plan to the three lent tables. It judges first and then writes: each row and each arc once,
 // where it belongs.
-pub mod front;
-pub mod judging;
-
-use crate::judging::Judged;
-use crate::judging::judge;
+use judging::INDEX;
+use judging::Judged;
+use judging::LIST;
+use judging::LISTS;
+use judging::SMALL_LISTS;
+use judging::SMALL_PLAN;
+use judging::SMALL_ROWS;
+use judging::judge;
 use plan::COUNTS;
 use plan::ROWS;
 use tables::kinds::write_kinds;
 use tables::rows::put_transitions;
-use transitions::MOST;
 ghost use mathlib.Core.Path.{_≡_};
 ghost use mathlib.Core.Bool.{_&&_};
 ghost use Prim.Native.Nat.{_+_, _*_, _≤_};
@@ -19,22 +21,7 @@ ghost use Rattle.boxes.specs.Compile as paper;
 ghost use Rattle.field.specs.Limits.{plan-limit};
 ghost use Rattle.transitions.specs.inner.Numbers.{most};
 ghost use Rattle.compile.specs.Says.{compiling-says, three-lent};
-ghost use Rattle.compile.specs.inner.Judging.{Leaves};
-
-// Plans of at most so many bytes get work room of their size, so that a small plan does not pay for the limits.
-pub const SMALL_PLAN: usize = 512;
-
-// The work room for so many bytes: two numbers of the node table, one of the counts and four of the lists for each byte.
-pub const SMALL_ROWS: usize = 2 * SMALL_PLAN;
-
-pub const SMALL_LISTS: usize = 4 * SMALL_PLAN;
-
-pub const LISTS: usize = 4 * field::PLAN_LIMIT;
-
-// The index has three numbers to an action, the list of transitions three to a transition.
-pub const INDEX: usize = 3 * field::ACTION_LIMIT;
-
-pub const LIST: usize = 3 * MOST;
+ghost use Rattle.compile.specs.inner.Leaves.{Leaves};
 
 // The counts of the net, or the first refusal with what it carries.
 pub enum Compiling {
@@ -48,7 +35,7 @@ pub enum Compiling {
     },
 }
 
-// 14: each three-lent table holds what is to be written.
+// 14: each lent table holds what is to be written.
 fn tables_reach(
     kinds: &[u8],
     rows: &[u16],
@@ -63,7 +50,7 @@ fn tables_reach(
     (places <= kinds.len()) & ((6 * transitions <= rows.len()) & (arc_count <= arcs.len()))
 }
 
-// The call, in room that is three-lent too. The node table is no longer asked for when the arcs are written, and so is room to merge in.
+// The call, in room that is lent too. The node table is no longer asked for when the arcs are written, and so is room to merge in.
 fn compile_in(
     plan: &[u8],
     table: &mut [u16],
@@ -149,7 +136,7 @@ fn compile_small(plan: &[u8], kinds: &mut [u8], rows: &mut [u16], arcs: &mut [u1
     )
 }
 
-// The three tables of the plan's net. Nothing three-lent is written before all is known, and on refusal nothing is; what lies behind the net's part
+// The three tables of the plan's net. Nothing lent is written before all is known, and on refusal nothing is; what lies behind the net's part
 // is never touched.
 pub fn compile(plan: &[u8], kinds: &mut [u8], rows: &mut [u16], arcs: &mut [u16]) -> Compiling
     ensures answer { λ r. ⌜ compiling-says r ≡ paper.compile (now (plan .entry)) (three-lent (now (kinds .entry)) (now (rows .entry)) (now (arcs .entry))) .answer ⌝ }

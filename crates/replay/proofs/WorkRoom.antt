@@ -19,9 +19,9 @@ use Rattle.net.proofs.ReadTables.{lent-tables}
 use Rattle.boxes.specs.Compile.{counts-of, accept}
 use Rattle.boxes.proofs.TablesAreANet.{lent-tables-are-a-net, lent-tables-are-the-net}
 use Rattle.tables.specs.inner.Rows.{Whole, Asked}
-use Rattle.compile.specs.inner.Judging.{judged-says, net-counts, Drawn}
-use Rattle.compile.specs.declared.judging.Judged.{Judged}
-use Rattle.compile.proofs.CompileCall.{IsFine, is-fine, asked, in-front, rows-long as rows-length}
+use Rattle.judging.specs.inner.Judging.{judged-says, net-counts, Drawn}
+use Rattle.judging.specs.declared.Judged.{Judged}
+use Rattle.judging.proofs.FinePlans.{IsFine, is-fine, asked, in-front, rows-long as rows-length}
 use Rattle.step.specs.inner.Naming.{transitions-within, InOrder}
 use Rattle.step.proofs.NetInOrder.{net-in-order, transitions-lent}
 use Rattle.replay.specs.declared.Sizes.{Sizes}

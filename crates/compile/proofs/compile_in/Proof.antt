@@ -4,7 +4,8 @@ use native.Mathlib.Omega.{arith}
 use mathlib.Core.Path.{sym, _∙_}
 use borrow.Author.Tests.{not-true, not-false}
 use Rattle.compile.specs.Says.{three-lent}
-use Rattle.compile.proofs.CompileCall.{is-fine, not-fine, plan-refused, asked, too-short, reaches, written}
+use Rattle.judging.proofs.FinePlans.{is-fine, not-fine, asked}
+use Rattle.compile.proofs.CompileCall.{plan-refused, too-short, reaches, written}
 use borrow.Author.Needs.{needs}
 use Rattle.compile.proofs.compile_in.Statement.{statement}
 use Rattle.compile.proofs.compile_in.Tie as tie

@@ -1,6 +1,6 @@
 -- `replay_in`: a refused plan is refused, and of one that is fine it is known what the judgement has told.
 -- Assumes nothing.
-use Rattle.compile.proofs.CompileCall.{not-fine}
+use Rattle.judging.proofs.FinePlans.{not-fine}
 use Rattle.replay.proofs.WorkRoom.{told-by}
 use Rattle.replay.proofs.ReplayCall.{plan-refused}
 use borrow.Author.Needs.{needs}

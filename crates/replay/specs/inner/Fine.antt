@@ -5,9 +5,9 @@ use mathlib.Core.List.{List}
 use Rattle.field.specs.Answer.{good}
 use Rattle.algebra.specs.Expr.{Expr}
 use Rattle.boxes.specs.Compile.{accept}
-use Rattle.compile.specs.inner.Judging.{judged-says, net-counts, Drawn}
-use Rattle.compile.specs.declared.judging.Judged.{Judged}
-use Rattle.compile.specs.declared.judging.Judged.the-variants.{Fine}
+use Rattle.judging.specs.inner.Judging.{judged-says, net-counts, Drawn}
+use Rattle.judging.specs.declared.Judged.{Judged}
+use Rattle.judging.specs.declared.Judged.the-variants.{Fine}
 use Rattle.replay.specs.declared.Sizes.{Sizes}
 
 -- The answer that a net has these sizes.

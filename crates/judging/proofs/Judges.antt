@@ -33,10 +33,10 @@ use Rattle.boxes.specs.Compile.{accept}
 use Rattle.transitions.specs.inner.Numbers.{flat, Fits, ListIs}
 use Rattle.transitions.specs.declared.Listed.{Listed}
 use Rattle.transitions.specs.declared.Listed.the-variants.{Many, TooMany}
-use Rattle.compile.specs.inner.Judged.{check-places, check-transitions, check-arcs, judge, judged}
-use Rattle.compile.specs.inner.Ready.{ready-sizes, ready, FrontSays, ListIsOf, CountsAreOf, TableIsOf, TablesAre, Few, Fine}
-use Rattle.compile.specs.declared.front.Judgement.{Judgement}
-use Rattle.compile.specs.declared.front.Judgement.the-variants as judgement
+use Rattle.judging.specs.inner.Judged.{check-places, check-transitions, check-arcs, judge, judged}
+use Rattle.judging.specs.inner.Ready.{ready-sizes, ready, FrontSays, ListIsOf, CountsAreOf, TableIsOf, TablesAre, Few, Fine}
+use Rattle.judging.specs.declared.front.Judgement.{Judgement}
+use Rattle.judging.specs.declared.front.Judgement.the-variants as judgement
 
 -- A test of a count that is cut off is the test of the count.
 pub leb-cut : (limit n : ℕ) → leb (cut limit n) limit ≡ leb n limit

@@ -4,9 +4,9 @@ use Prim.Native.Nat.{_+_}
 use mathlib.Core.Path.{ap}
 use borrow.Author.Needs.{needs}
 use Rattle.boxes.specs.declared.counts.Counts.{Counts}
-use Rattle.compile.specs.Says.{counts}
-use Rattle.compile.proofs.judging.told.Statement.{statement}
-use Rattle.compile.proofs.judging.told.Tie as tie
+use Rattle.judging.specs.inner.Judging.{counts}
+use Rattle.judging.proofs.told.Statement.{statement}
+use Rattle.judging.proofs.told.Tie as tie
 
 returns : tie.Need-returns
 returns c =

@@ -1,10 +1,13 @@
 // 01, "Refusal numbers": everything that 1 to 13 ask is known before the first arc is made, and with it where each arc will stand. So
 // compile tests 14 on the lent tables, and replay makes as much room as its net takes.
+pub mod front;
+
 use crate::front::Judgement;
 use crate::front::front;
 use boxes::counts::counts_at;
 use spread::walk::spread;
 use tables::rows::count_arcs;
+use transitions::MOST;
 ghost use mathlib.Core.Path.{_≡_};
 ghost use Prim.Native.Nat.{_*_, _≤_};
 ghost use lib.ListN.{length};
@@ -13,7 +16,22 @@ ghost use Rattle.field.specs.Answer.{good};
 ghost use Rattle.algebra.specs.Expr.{Expr};
 ghost use Rattle.boxes.specs.Compile.{accept};
 ghost use Rattle.transitions.specs.inner.Numbers.{most};
-ghost use Rattle.compile.specs.inner.Judging.{judged-says, net-counts, counted, Told, Drawn};
+ghost use Rattle.judging.specs.inner.Judging.{judged-says, net-counts, counted, Told, Drawn};
+
+// Plans of at most so many bytes get work room of their size, so that a small plan does not pay for the limits.
+pub const SMALL_PLAN: usize = 512;
+
+// The work room for so many bytes: two numbers of the node table, one of the counts and four of the lists for each byte.
+pub const SMALL_ROWS: usize = 2 * SMALL_PLAN;
+
+pub const SMALL_LISTS: usize = 4 * SMALL_PLAN;
+
+pub const LISTS: usize = 4 * field::PLAN_LIMIT;
+
+// The index has three numbers to an action, the list of transitions three to a transition.
+pub const INDEX: usize = 3 * field::ACTION_LIMIT;
+
+pub const LIST: usize = 3 * MOST;
 
 // The first refusal with what it carries; or the counts of the net.
 pub enum Judged {

@@ -2,10 +2,10 @@
 -- Assumes nothing.
 use mathlib.Core.Path.{sym, _∙_, ap}
 use Rattle.plan.specs.inner.Judged.{loops-say}
-use Rattle.compile.proofs.Judges.{loops-stop, places-stop, all-fine}
+use Rattle.judging.proofs.Judges.{loops-stop, places-stop, all-fine}
 use borrow.Author.Needs.{needs}
-use Rattle.compile.proofs.front.judge.Statement.{statement}
-use Rattle.compile.proofs.front.judge.Tie as tie
+use Rattle.judging.proofs.front.judge.Statement.{statement}
+use Rattle.judging.proofs.front.judge.Tie as tie
 
 returns : tie.Need-returns
 returns c =

@@ -5,8 +5,8 @@ use mathlib.Core.Path.{ap}
 use lib.Dec.{leb}
 use borrow.Author.Needs.{needs}
 use Rattle.boxes.specs.declared.counts.Counts.{Counts}
-use Rattle.compile.proofs.front.places_fit.Statement.{statement}
-use Rattle.compile.proofs.front.places_fit.Tie as tie
+use Rattle.judging.proofs.front.places_fit.Statement.{statement}
+use Rattle.judging.proofs.front.places_fit.Tie as tie
 
 pub places-fit-spec : {M : Type 1} → statement M
 places-fit-spec =

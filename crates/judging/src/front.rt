@@ -17,8 +17,8 @@ ghost use Rattle.algebra.specs.Expr.{Expr, actions};
 ghost use Rattle.plan.specs.Bytes.{named};
 ghost use Rattle.plan.specs.inner.Table.{Table};
 ghost use Rattle.transitions.specs.inner.Numbers.{most};
-ghost use Rattle.compile.specs.inner.Judged.{judged};
-ghost use Rattle.compile.specs.inner.Ready.{FrontSays, ready, TablesAre, Few, Fine};
+ghost use Rattle.judging.specs.inner.Judged.{judged};
+ghost use Rattle.judging.specs.inner.Ready.{FrontSays, ready, TablesAre, Few, Fine};
 
 // The first refusal with what it carries; or how many nodes and transitions the plan has.
 pub enum Judgement {

@@ -1,9 +1,9 @@
 -- `list_few` meets its contract: the list's answer tells how many transitions there are, or that they are too many.
 -- Assumes nothing.
-use Rattle.compile.proofs.Judges.{too-many-few, listed-few}
+use Rattle.judging.proofs.Judges.{too-many-few, listed-few}
 use borrow.Author.Needs.{needs}
-use Rattle.compile.proofs.front.list_few.Statement.{statement}
-use Rattle.compile.proofs.front.list_few.Tie as tie
+use Rattle.judging.proofs.front.list_few.Statement.{statement}
+use Rattle.judging.proofs.front.list_few.Tie as tie
 
 returns : tie.Need-returns
 returns c =

@@ -1,10 +1,10 @@
 -- `front` meets its contract: a plan that is read is judged by its table, and one that is not is refused as the reader says.
 -- Assumes nothing.
 use native.Mathlib.Omega.{arith}
-use Rattle.compile.proofs.Judges.{is-read, unread, front-answer, front-tables}
+use Rattle.judging.proofs.Judges.{is-read, unread, front-answer, front-tables}
 use borrow.Author.Needs.{needs}
-use Rattle.compile.proofs.front.front.Statement.{statement}
-use Rattle.compile.proofs.front.front.Tie as tie
+use Rattle.judging.proofs.front.front.Statement.{statement}
+use Rattle.judging.proofs.front.front.Tie as tie
 
 judge-requires : tie.Need-judge-requires
 judge-requires c κs =

@@ -1,4 +1,4 @@
--- What the judgement says and leaves in the work tables, and what the compile call leaves in the lent ones.
+-- What the judgement says and leaves in the work tables.
 use Prim.Native.Nat.{ℕ, _+_, _*_, _≤_}
 use mathlib.Core.Path.{_≡_}
 use mathlib.Core.List.{List}
@@ -6,11 +6,13 @@ use lib.ListN.{length, getD}
 use Rattle.field.specs.Answer.{Answer, good, refused, _>>=_}
 use Rattle.algebra.specs.Expr.{Expr}
 use Rattle.algebra.specs.Arcs.{net-of}
-use Rattle.boxes.specs.Compile.{Counts, counts-of, accept, Lent, compile}
+use Rattle.boxes.specs.Compile.{Counts, counts-of, accept}
 use Rattle.tables.specs.inner.Rows.{Whole}
-use Rattle.compile.specs.Says.{counts}
-use Rattle.compile.specs.declared.judging.Judged.{Judged}
-use Rattle.compile.specs.declared.judging.Judged.the-variants as judged
+use Rattle.judging.specs.declared.Judged.{Judged}
+use Rattle.judging.specs.declared.Judged.the-variants as judged
+
+abbrev pub counts : ℕ → ℕ → ℕ → ℕ → ℕ → Counts
+counts places transitions arcs entries internals = record { places = places; transitions = transitions; arcs = arcs; entries = entries; internals = internals }
 
 abbrev pub judged-says : Judged → Answer Counts
 judged-says (judged.Refused number carried) = refused number carried
@@ -34,10 +36,3 @@ Told table transitions arcs (judged.Fine places n count entries internals) = cou
 abbrev pub Drawn : Judged → List ℕ → List ℕ → List ℕ → Expr → Type 0
 Drawn (judged.Refused number carried) lists index list E = Unit {0}
 Drawn (judged.Fine places transitions arcs entries internals) lists index list E = Whole lists index list transitions E × (3 * transitions ≤ length list)
-
--- The answer and the three tables are the paper's.
-pub record Leaves (plan : List ℕ) (old : Lent) (answer : Answer Counts) (kinds rows arcs : List ℕ) : Type 0 where
-  pub says : answer ≡ compile plan old .answer
-  pub kinds-are : kinds ≡ compile plan old .tables .kinds
-  pub rows-are : rows ≡ compile plan old .tables .rows
-  pub arcs-are : arcs ≡ compile plan old .tables .arcs

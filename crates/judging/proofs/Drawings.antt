@@ -46,16 +46,16 @@ use Rattle.spread.specs.inner.Spread.{Of, Told}
 use Rattle.tables.specs.inner.Rows.{listed-from, told-arcs, Whole}
 use Rattle.tables.proofs.Counted.{arcs-told}
 use Rattle.boxes.specs.inner.ArcCounts.{listed-arcs}
-use Rattle.compile.specs.inner.Judged.{check-places, check-transitions, check-arcs, judge, judged}
-use Rattle.compile.specs.inner.Ready.{ready-sizes, ready, FrontSays, TablesAre}
-use Rattle.compile.specs.inner.Judging as judging
-use Rattle.compile.specs.Says.{counts}
-use Rattle.compile.specs.inner.Judging.{counted, judged-says, net-counts, Drawn}
-use Rattle.compile.specs.declared.judging.Judged.{Judged}
-use Rattle.compile.specs.declared.judging.Judged.the-variants as judgement
-use Rattle.compile.specs.declared.front.Judgement.{Judgement}
-use Rattle.compile.specs.declared.front.Judgement.the-variants.{Refused, Ready}
-use Rattle.compile.proofs.Judges.{leb-cut, leb-is-true, leb-is-false, bytes-of-nodes, accept-judged}
+use Rattle.judging.specs.inner.Judged.{check-places, check-transitions, check-arcs, judge, judged}
+use Rattle.judging.specs.inner.Ready.{ready-sizes, ready, FrontSays, TablesAre}
+use Rattle.judging.specs.inner.Judging as judging
+use Rattle.judging.specs.inner.Judging.{counts}
+use Rattle.judging.specs.inner.Judging.{counted, judged-says, net-counts, Drawn}
+use Rattle.judging.specs.declared.Judged.{Judged}
+use Rattle.judging.specs.declared.Judged.the-variants as judgement
+use Rattle.judging.specs.declared.front.Judgement.{Judgement}
+use Rattle.judging.specs.declared.front.Judgement.the-variants.{Refused, Ready}
+use Rattle.judging.proofs.Judges.{leb-cut, leb-is-true, leb-is-false, bytes-of-nodes, accept-judged}
 
 -- ---- 13
 arcs-few : (E : Expr) → length (arcs-of (net-of E)) ≤ arc-limit → check-arcs E ≡ good tt

@@ -10,9 +10,9 @@ use Rattle.algebra.specs.Transitions.{transitions}
 use Rattle.plan.specs.inner.Nodes.{node-count, node-table}
 use Rattle.boxes.specs.inner.NodeCounts.{node-counts}
 use Rattle.transitions.specs.inner.Numbers.{flat}
-use Rattle.compile.specs.inner.Judged.{check-transitions, judge, judged}
-use Rattle.compile.specs.declared.front.Judgement.{Judgement}
-use Rattle.compile.specs.declared.front.Judgement.the-variants.{Refused, Ready}
+use Rattle.judging.specs.inner.Judged.{check-transitions, judge, judged}
+use Rattle.judging.specs.declared.front.Judgement.{Judgement}
+use Rattle.judging.specs.declared.front.Judgement.the-variants.{Refused, Ready}
 
 -- How many nodes and transitions a plan has.
 pub record Sizes : Type 0 where

@@ -1,10 +1,10 @@
 -- `judge` meets its contract: a plan that is ready is judged by its arcs, and one that is not is refused as it was judged before.
 -- Assumes nothing.
 use native.Mathlib.Omega.{arith}
-use Rattle.compile.proofs.Drawings.{is-ready, not-ready, too-many, fine-says, fine-drawn}
+use Rattle.judging.proofs.Drawings.{is-ready, not-ready, too-many, fine-says, fine-drawn}
 use borrow.Author.Needs.{needs}
-use Rattle.compile.proofs.judging.judge.Statement.{statement}
-use Rattle.compile.proofs.judging.judge.Tie as tie
+use Rattle.judging.proofs.judge.Statement.{statement}
+use Rattle.judging.proofs.judge.Tie as tie
 
 front-requires : tie.Need-front-requires
 front-requires c κs = let p = c .before .before .before .before .before .before .before .before .before .pre in ((λ h. (p .0 h .0, p .0 h .1)), p .1 .1)

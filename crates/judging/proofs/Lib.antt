@@ -1,0 +1,3 @@
+pub mod Judges
+pub mod Drawings
+pub mod FinePlans

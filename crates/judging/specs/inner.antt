@@ -1,0 +1,3 @@
+pub mod Judged
+pub mod Ready
+pub mod Judging
