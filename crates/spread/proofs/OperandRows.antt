@@ -15,8 +15,8 @@ use Rattle.arcs.specs.inner.Spreads.{Factor, Spread, lowered, Spreads, list-of,
 use Rattle.arcs.specs.declared.sides.Side.{Side}
 use Rattle.arcs.specs.declared.sides.Side.the-variants.{Inputs, Outputs}
 use Rattle.arcs.proofs.SpreadsFit.{Lowers, AllLower}
-use Rattle.spread.specs.inner.Lists.{OneList, one-list, Short, list-row, list-by, lower, node-put, operand-put, place-of, Chain, Means, Has}
-use Rattle.spread.proofs.RowsPut.{node-long, node-kept, node-in, node-out, node-inner}
+use Rattle.lists.specs.inner.Lists.{OneList, one-list, Short, list-row, list-by, lower, node-put, operand-put, place-of, Chain, Means, Has}
+use Rattle.lists.proofs.RowsPut.{node-long, node-kept, node-in, node-out, node-inner}
 
 -- The root's lists are not copied, so that what goes on with them ends there.
 pub record Rooted (lists : List ℕ) : Type 0 where

@@ -10,10 +10,10 @@ use Rattle.plan.specs.inner.Table.{after-at}
 use Rattle.boxes.specs.inner.Counted.{counts-at}
 use Rattle.boxes.specs.declared.counts.Counts.{Counts}
 use Rattle.arcs.specs.inner.Moves.{Kind, Entry, Internal, Exit, Operand, First, Second, Third, Move, sequence-move, choice-move, parallel-move, loop-move}
-use Rattle.spread.specs.declared.lists.Node.{Node}
-use Rattle.spread.specs.inner.Lists.{OneList, one-list, list-row, node-row, list-by, lower-by, lower, node-put}
+use Rattle.lists.specs.declared.Node.{Node}
+use Rattle.lists.specs.inner.Lists.{OneList, one-list, list-row, node-row, list-by, lower-by, lower, node-put}
 use Rattle.spread.specs.inner.Walk.{two-put, three-put, operands-put}
-use Rattle.spread.proofs.Lowering.{lower-same}
+use Rattle.lists.proofs.Lowering.{lower-same}
 
 -- ---- an operand's lists, from the node's as they were read
 module _ (lists : List ℕ) (k : ℕ) {n : Node} (read : n ≡ node-row lists k) where

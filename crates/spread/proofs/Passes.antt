@@ -32,11 +32,11 @@ use Rattle.arcs.proofs.Children as kids
 use Rattle.arcs.proofs.Transitions.{numbers-few}
 use Rattle.arcs.proofs.Leads.{Leads, arcs, root, root-leads, action-leads, sequence-leads, choice-leads, parallel-leads, loop-leads, scope-leads}
 use Rattle.arcs.proofs.SpreadsFit.{AllFit, Parts, all-lower, sequence-parts, choice-parts, parallel-parts, loop-parts, scope-part}
-use Rattle.spread.specs.inner.Lists.{OneList, one-list, Short, list-row, place-of, Chain, Means, Has}
+use Rattle.lists.specs.inner.Lists.{OneList, one-list, Short, list-row, place-of, Chain, Means, Has}
 use Rattle.spread.specs.inner.Walk.{root-put, two-put, three-put, operands-put, Counts-of, index-numbers, index-put, ActionPut}
 use Rattle.spread.specs.inner.Spread.{Of, Listed, count-of, Told}
 use Rattle.spread.proofs.OperandRows.{Rooted, Stays}
-use Rattle.spread.proofs.RowsPut.{mod-small, sets-other, sets-at, node-long, node-in, node-out, node-inner}
+use Rattle.lists.proofs.RowsPut.{mod-small, sets-other, sets-at, node-long, node-in, node-out, node-inner}
 use Rattle.spread.proofs.Walks.{Knot, Ahead, Here, Next, means-kept, ahead-kept, ahead-actions, counts-are, two-next, three-next, one-next}
 
 module _ (rows counts : List ℕ) (nodes : ℕ) (R : Expr) where

@@ -20,7 +20,7 @@ use Rattle.arcs.proofs.Sizes.{sizes, counts-here}
 use Rattle.arcs.proofs.Children as kids
 use Rattle.arcs.proofs.Leads.{Leads}
 use Rattle.arcs.proofs.SpreadsFit.{Fits, AllFit, Parts, all-lower}
-use Rattle.spread.specs.inner.Lists.{OneList, Short, list-row, operand-put, place-of, Means, Has}
+use Rattle.lists.specs.inner.Lists.{OneList, Short, list-row, operand-put, place-of, Means, Has}
 use Rattle.spread.specs.inner.Walk.{one-put}
 use Rattle.spread.proofs.OperandRows.{Rooted, Stays, row-same, chain-below, chain-kept, operand-from, operand-has, operand-kept, operand-long}
 

@@ -1,4 +1,2 @@
-pub mod Lists
-pub mod Placing
-pub mod Spread
 pub mod Walk
+pub mod Spread

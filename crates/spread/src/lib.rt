@@ -1,4 +1,2 @@
 // 01, "Box construction": where the places of every action stand in the whole net, worked out from the counts of the nodes.
-mod lists;
-pub mod placing;
 pub mod walk;

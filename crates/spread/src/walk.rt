@@ -1,15 +1,15 @@
 // One pass over the node table, in which a node stands before its operands: each node's lists are known when the pass comes to it, and it
 // puts those of its operands. No depth is asked for, since every node has a row of its own.
-use crate::lists::Node;
-use crate::lists::ROW;
-use crate::lists::lowered;
-use crate::lists::node_at;
-use crate::lists::places_from;
-use crate::lists::put_node;
-use crate::placing::count_places;
 use arcs::sides::Side;
 use boxes::counts::Counts;
 use boxes::counts::counts_at;
+use lists::Node;
+use lists::ROW;
+use lists::lowered;
+use lists::node_at;
+use lists::places_from;
+use lists::placing::count_places;
+use lists::put_node;
 use plan::exclusive::row_number;
 use plan::tags::ACTION;
 use plan::tags::AFTER;
@@ -25,7 +25,7 @@ ghost use lib.ListN.{length};
 ghost use Rattle.algebra.specs.Expr.{Expr, actions};
 ghost use Rattle.boxes.specs.inner.Counted.{Small, counts-at};
 ghost use Rattle.arcs.specs.inner.Moves.{sequence-move, choice-move, parallel-move};
-ghost use Rattle.spread.specs.inner.Lists.{ShortNode, node-row};
+ghost use Rattle.lists.specs.inner.Lists.{ShortNode, node-row};
 ghost use Rattle.spread.specs.inner.Walk.{root-put, two-put, three-put, operands-put, index-numbers, index-put, ActionPut};
 ghost use Rattle.spread.specs.inner.Spread.{Of, Told};
 

@@ -22,8 +22,8 @@ use Rattle.arcs.proofs.Merges as merges
 use Rattle.arcs.proofs.Merges.{union-numbers, part-is}
 use Rattle.arcs.proofs.Ones.{numbers-ones, ones-below}
 use Rattle.arcs.specs.inner.Spreads.{Spread, placed}
-use Rattle.spread.specs.inner.Lists.{list-row, place-of, Means}
-use Rattle.spread.specs.inner.Placing.{Small}
+use Rattle.lists.specs.inner.Lists.{list-row, place-of, Means}
+use Rattle.lists.specs.inner.Placing.{Small}
 use Rattle.spread.specs.inner.Spread.{Listed}
 use Rattle.tables.specs.inner.Rows.{told-count, item-places, Below, Placed, PlacedPair, PlacedBoth, InOrder, Drafted}
 use Rattle.tables.proofs.Counted.{told-one}

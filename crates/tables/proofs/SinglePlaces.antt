@@ -17,8 +17,8 @@ use Rattle.arcs.specs.inner.Positions.{stretched}
 use Rattle.arcs.specs.inner.Spreads.{Spread, placed}
 use Rattle.arcs.specs.declared.sides.Side.{Side}
 use Rattle.arcs.proofs.Positions.{stretched-length, stretched-at}
-use Rattle.spread.specs.inner.Lists.{list-row, place-of, Means}
-use Rattle.spread.proofs.Chains.{copied-longer, copied-first}
+use Rattle.lists.specs.inner.Lists.{list-row, place-of, Means}
+use Rattle.lists.proofs.Chains.{copied-longer, copied-first}
 use Rattle.tables.specs.inner.Rows.{told-count, item-places, Placed, Drafted}
 use Rattle.tables.proofs.Counted.{told-one}
 use Rattle.tables.proofs.Runs.{all-set}

@@ -2,10 +2,10 @@
 // transition with no gap". How many places each action has is told beforehand, so each row and each arc is written once, where it belongs.
 use arcs::merge::merge;
 use arcs::sides::Side;
+use lists::placing::place_of;
+use lists::placing::put_places;
 use plan::exclusive::number_at;
 use plan::exclusive::wide;
-use spread::placing::place_of;
-use spread::placing::put_places;
 ghost use mathlib.Core.Path.{_≡_};
 ghost use mathlib.Core.Bool.{true, cond};
 ghost use mathlib.Core.List.{[], _∷_, List·Memᴰ};
@@ -21,7 +21,7 @@ ghost use Rattle.algebra.specs.Arcs.{transition-of, net-of};
 ghost use Rattle.net.specs.Tables.{item-of, rows-of, arcs-of};
 ghost use Rattle.boxes.specs.inner.ArcCounts.{item-arcs, listed-arcs};
 ghost use Rattle.arcs.specs.declared.sides.Side.the-variants.{Inputs, Outputs};
-ghost use Rattle.spread.specs.inner.Lists.{place-of};
+ghost use Rattle.lists.specs.inner.Lists.{place-of};
 ghost use Rattle.tables.specs.inner.Rows.{item-at, listed-at, listed-from, told-count, told-arcs, Drafted, Whole, Asked, Placed, PlacedBoth, PlacedPair, InOrder, Room, Put};
 
 // How many places an action has on one side.

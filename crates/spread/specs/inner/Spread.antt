@@ -13,7 +13,7 @@ use Rattle.arcs.specs.inner.Moves.{passes}
 use Rattle.arcs.specs.inner.Spreads.{Spread, placed}
 use Rattle.arcs.specs.declared.sides.Side.{Side}
 use Rattle.arcs.specs.declared.sides.Side.the-variants.{Inputs, Outputs}
-use Rattle.spread.specs.inner.Lists.{list-row, place-of, Means}
+use Rattle.lists.specs.inner.Lists.{list-row, place-of, Means}
 
 -- The rows begin with the node table of an expression and the counts with those of its nodes; its places are within the limit.
 pub record Of (rows : List ℕ) (nodes : ℕ) (counts : List ℕ) (E : Expr) : Type 0 where

@@ -14,7 +14,7 @@ use Rattle.arcs.specs.inner.Spreads.{Spread, placed}
 use Rattle.arcs.specs.declared.sides.Side.{Side}
 use Rattle.arcs.specs.declared.sides.Side.the-variants.{Inputs, Outputs}
 use Rattle.boxes.specs.declared.counts.Counts.{Counts}
-use Rattle.spread.specs.inner.Lists.{one-list, list-row, node-put, operand-put, place-of, Means}
+use Rattle.lists.specs.inner.Lists.{one-list, list-row, node-put, operand-put, place-of, Means}
 
 abbrev pub root-put : Counts → List ℕ → List ℕ
 root-put c lists = node-put lists 0 (one-list 0 1 0 0 0) (one-list (c .entries + c .internals) 1 0 0 0) (c .entries)

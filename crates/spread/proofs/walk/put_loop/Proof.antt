@@ -6,7 +6,7 @@ use native.Mathlib.Nat.{add-assoc}
 use mathlib.Core.Path.{_∙_}
 use borrow.Author.Needs.{needs}
 use Rattle.boxes.proofs.CountedByTag.{product-fits}
-use Rattle.spread.proofs.Lowering.{places-short, three-fit, three-fit′}
+use Rattle.lists.proofs.Lowering.{places-short, three-fit, three-fit′}
 use Rattle.spread.proofs.OperandsPut.{entries-kept, exits-kept, internal-kept, internal-behind, of-internals, three-told}
 use Rattle.spread.proofs.walk.put_loop.Statement.{statement}
 use Rattle.spread.proofs.walk.put_loop.Tie as tie

@@ -3,7 +3,7 @@
 use Prim.Native.Nat.{_+_}
 use mathlib.Core.Path.{_∙_, ap}
 use borrow.Author.Needs.{needs}
-use Rattle.spread.specs.inner.Lists.{node-put}
+use Rattle.lists.specs.inner.Lists.{node-put}
 use Rattle.spread.specs.inner.Walk.{root-put}
 use Rattle.spread.proofs.walk.put_root.Statement.{statement}
 use Rattle.spread.proofs.walk.put_root.Tie as tie

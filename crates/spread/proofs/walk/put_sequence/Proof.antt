@@ -4,7 +4,7 @@ use Prim.Native.Nat.{_+_}
 use native.Mathlib.Omega.{arith}
 use borrow.Author.Needs.{needs}
 use Rattle.arcs.specs.inner.Moves.{sequence-move}
-use Rattle.spread.proofs.Lowering.{places-short}
+use Rattle.lists.proofs.Lowering.{places-short}
 use Rattle.spread.proofs.OperandsPut.{entries-kept, exits-kept, internal-kept, internal-behind, of-internals, two-told}
 use Rattle.spread.proofs.walk.put_sequence.Statement.{statement}
 use Rattle.spread.proofs.walk.put_sequence.Tie as tie

@@ -6,7 +6,7 @@ use mathlib.Core.Path.{refl}
 use lib.ListN.{length, length-set}
 use borrow.Author.Tests.{le-leb, lt-leb}
 use borrow.Author.Needs.{needs}
-use Rattle.spread.proofs.RowsPut.{three-stored}
+use Rattle.lists.proofs.RowsPut.{three-stored}
 use Rattle.spread.proofs.walk.put_told.Statement.{statement}
 use Rattle.spread.proofs.walk.put_told.Tie as tie
 

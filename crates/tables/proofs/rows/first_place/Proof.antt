@@ -3,7 +3,7 @@
 use mathlib.Core.Path.{_∙_, ap}
 use lib.ListN.{getD}
 use borrow.Author.Needs.{needs}
-use Rattle.spread.specs.inner.Lists.{place-of}
+use Rattle.lists.specs.inner.Lists.{place-of}
 use Rattle.tables.proofs.rows.first_place.Statement.{statement}
 use Rattle.tables.proofs.rows.first_place.Tie as tie
 

@@ -1,0 +1,4 @@
+pub mod Lowering
+pub mod RowsPut
+pub mod Placings
+pub mod Chains
