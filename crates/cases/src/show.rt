@@ -2,9 +2,9 @@
 ghost use Prim.Native.Nat.{_≤_};
 ghost use lib.ListN.{length};
 use compile::Compiling;
+use enabling::Enabling;
+use moving::Fired;
 use run::Ran;
-use step::Enabling;
-use step::Fired;
 
 pub const ROOM: usize = 8192;
 
@@ -133,7 +133,7 @@ pub fn listed(text: &[u8], marking: &[u8], list: &mut [u16]) {
         1,
     ];
     let arcs = [0, 2, 1, 3, 2, 3, 4];
-    match step::enabled(&kinds, &rows, &arcs, 5, 3, 7, marking, list) {
+    match enabling::enabled(&kinds, &rows, &arcs, 5, 3, 7, marking, list) {
         Enabling::Many(many) => {
             console::say(b"enabled ");
             console::say_number(many);

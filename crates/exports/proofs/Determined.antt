@@ -10,7 +10,7 @@ use Rattle.field.proofs.OneResult.{One, Allowed, Answered}
 use Rattle.net.specs.Lent.{lent}
 use Rattle.boxes.specs.Compile.{compile}
 use Rattle.step.specs.Fire.{fire}
-use Rattle.step.specs.Enabled.{enabled}
+use Rattle.enabling.specs.Enabled.{enabled}
 use Rattle.compile.specs.Says as tables
 use Rattle.replay.specs.Replay.{replay}
 use Rattle.exports.specs.Told.{told, compile-tells, fire-tells, enabled-tells, replay-tells}

@@ -5,7 +5,7 @@ use mathlib.Core.List.{List, [], _∷_, _++_}
 use lib.ListN.{length, drop}
 use Rattle.field.specs.Answer.{Answer, good, refused}
 use Rattle.boxes.specs.Compile.{Counts}
-use Rattle.step.specs.Enabled.{Enabling, enabling, stuck}
+use Rattle.enabling.specs.Enabled.{Enabling, enabling, stuck}
 use Rattle.run.specs.Run.{Verdict, finished, unfinished, refusal}
 
 -- What lies behind the numbers stays as it was.

@@ -8,14 +8,14 @@ ghost use lib.Dec.{leb};
 ghost use Rattle.net.specs.Lent.{lent};
 ghost use Rattle.boxes.specs.Compile;
 ghost use Rattle.step.specs.Fire;
-ghost use Rattle.step.specs.Enabled;
+ghost use Rattle.enabling.specs.Enabled;
 ghost use Rattle.compile.specs.Says.{three-lent as lent-tables};
 ghost use Rattle.replay.specs.Replay;
 ghost use Rattle.exports.specs.Told.{told, compile-tells, fire-tells, enabled-tells, replay-tells};
 use compile::Compiling;
+use enabling::Enabling;
+use moving::Fired;
 use run::Ran;
-use step::Enabling;
-use step::Fired;
 
 // The numbers of an answer, for which there is room.
 fn tell(answer: &mut [usize], numbers: &[usize])
@@ -119,7 +119,7 @@ pub extern "C" fn fuuqidhel_enabled(
     if answer.len() < 4 {
         return false;
     }
-    match step::enabled(
+    match enabling::enabled(
         kinds,
         rows,
         arcs,

@@ -34,3 +34,7 @@ module _ {A : Type 0} where
 pub check-refused : (b : Bool) (k d n c : ℕ) → check b k d ≡ refused n c → (b ≡ false) × (k ≡ n) × (d ≡ c)
 check-refused true k d n c e = good-not-refused (good tt) tt n c refl e
 check-refused false k d n c e = (refl, cc, cc)
+
+-- Two refusals that are the same say the same number, and carry the same.
+pub two-refusals : {A R : Type 0} (f : ℕ → ℕ → R) (n c k d : ℕ) → _≡_ {A = Answer A} (refused n c) (refused k d) → f n c ≡ f k d
+two-refusals f n c k d e = let p : n ≡ k = cc in let q : c ≡ d = cc in λ i. f (p i) (q i)

@@ -37,3 +37,11 @@ or-cases false b t = inr t
 
 pub eqb-of : (m n : ℕ) → m ≡ n → T (eqb m n)
 eqb-of m n e = subst (λ k. T (eqb m k)) e (eqb-refl m)
+
+pub never : {A : Type 0} → false ≡ true → A
+never e = absurd (let z : _≡_ {A = ℕ} 0 1 = cc in let w : ⊥ = omega arith in w)
+
+-- A case on a test, with the equation.
+pub test : {A : Type 0} (b : Bool) → (b ≡ true → A) → (b ≡ false → A) → A
+test true f g = f refl
+test false f g = g refl

@@ -5,8 +5,8 @@ use mathlib.Core.Path.{_≡_}
 use mathlib.Core.List.{List}
 use lib.ListN.{length, drop}
 use denote.Ref.{RefT, now}
-use Rattle.step.specs.inner.FormSays.{head-says, HeadFits, step-head}
-use Rattle.step.specs.declared.form.HeadAnswer.{HeadAnswer}
+use Rattle.form.specs.inner.FormSays.{head-says, HeadFits, step-head}
+use Rattle.form.specs.declared.HeadAnswer.{HeadAnswer}
 use Rattle.record.specs.declared.RecordReader.{RecordReader}
 
 abbrev pub Says : RecordReader → HeadAnswer → Type 0

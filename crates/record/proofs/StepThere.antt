@@ -6,12 +6,12 @@ use mathlib.Core.List.{List}
 use native.Mathlib.Omega.{arith}
 use lib.ListN.{length, take, drop, length-drop}
 use lib.Seq.{drop-drop}
-use Rattle.step.specs.Form.{read-items}
-use Rattle.step.specs.inner.FormSays.{items-say, HeadFits}
-use Rattle.step.specs.declared.form.HeadAnswer.{HeadAnswer}
-use Rattle.step.specs.declared.form.HeadAnswer.the-variants as head-answer
-use Rattle.step.specs.declared.form.ItemsAnswer.{ItemsAnswer}
-use Rattle.step.proofs.StepForms.{head-fits}
+use Rattle.form.specs.Form.{read-items}
+use Rattle.form.specs.inner.FormSays.{items-say, HeadFits}
+use Rattle.form.specs.declared.HeadAnswer.{HeadAnswer}
+use Rattle.form.specs.declared.HeadAnswer.the-variants as head-answer
+use Rattle.form.specs.declared.ItemsAnswer.{ItemsAnswer}
+use Rattle.form.proofs.StepForms.{head-fits}
 
 module _ (at : ℕ) (s : List ℕ) (n : ℕ) where
   body-there : take (at + 3 + n - (at + 3)) (drop (at + 3) s) ≡ take (3 + n - 3) (drop 3 (drop at s))

@@ -1,16 +1,16 @@
 // 01, "Run records": "Records are read through a reader that keeps the record's bytes and its place together." The functions over the
 // reader take it apart or make it anew; the work is `head_at`'s, on the bytes and the place. Other callers use `head_of` and `step_at`.
-use step::form::HeadAnswer;
-use step::form::ItemsAnswer;
-use step::form::MOST_ITEMS;
-use step::form::StepAnswer;
-use step::form::read_items;
-use step::form::step_head;
+use form::HeadAnswer;
+use form::ItemsAnswer;
+use form::MOST_ITEMS;
+use form::StepAnswer;
+use form::read_items;
+use form::step_head;
 ghost use mathlib.Core.Path.{_≡_};
 ghost use Prim.Native.Nat.{_+_, _≤_};
 ghost use lib.ListN.{length, drop};
-ghost use Rattle.step.specs.Form.{read-step};
-ghost use Rattle.step.specs.inner.FormSays.{head-says, HeadFits, step-head, step-says, StepFits};
+ghost use Rattle.form.specs.Form.{read-step};
+ghost use Rattle.form.specs.inner.FormSays.{head-says, HeadFits, step-head, step-says, StepFits};
 
 // A record, and the offset of the step that is read next.
 pub struct RecordReader<'a> {

@@ -39,14 +39,14 @@ use Rattle.net.proofs.ReadTables.{lent-tables}
 use Rattle.boxes.specs.Compile.{accept}
 use Rattle.boxes.proofs.CountsCutOff.{net-places}
 use Rattle.boxes.proofs.TablesAreANet.{accepted, lent-tables-are-a-net, lent-tables-are-the-net}
-use Rattle.step.specs.Form.{read-lent-step}
+use Rattle.form.specs.Form.{read-lent-step}
 use Rattle.step.specs.Fire.{fire-step}
-use Rattle.step.specs.Enabled.{list-enabled, exits-hold, Enabled, enabling, enabled}
-use Rattle.step.specs.declared.Enabling.the-variants.{Many}
-use Rattle.step.proofs.enabled.Kinds as call
-use Rattle.step.proofs.enabled.Reads as reads
-use Rattle.step.proofs.Determined.{enabling-once}
-use Rattle.step.proofs.ExitsHold.{others-passed, last-hold}
+use Rattle.enabling.specs.Enabled.{list-enabled, exits-hold, Enabled, enabling, enabled}
+use Rattle.enabling.specs.declared.Enabling.the-variants.{Many}
+use Rattle.enabling.proofs.enabled.Kinds as call
+use Rattle.enabling.proofs.enabled.Reads as reads
+use Rattle.enabling.proofs.Determined.{enabling-once}
+use Rattle.enabling.proofs.ExitsHold.{others-passed, last-hold}
 
 module _ (plan : List ℕ) (E : Expr) (yes-plan : accept plan ≡ good E) (R : List (List Item)) (m : List ℕ) (reached : fire-in-order (net-of E .transitions) (entry-marking (net-of E)) R ≡ good m)
     (kinds rows arcs rest : List ℕ) where

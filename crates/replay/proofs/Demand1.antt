@@ -10,9 +10,10 @@ use Rattle.net.proofs.is_net.Reads as is-net-reads
 use Rattle.net.proofs.Determined as net
 use Rattle.step.proofs.fire.Kinds as fire-kinds
 use Rattle.step.proofs.fire.Reads as fire-reads
-use Rattle.step.proofs.enabled.Kinds as enabled-kinds
-use Rattle.step.proofs.enabled.Reads as enabled-reads
+use Rattle.enabling.proofs.enabled.Kinds as enabled-kinds
+use Rattle.enabling.proofs.enabled.Reads as enabled-reads
 use Rattle.step.proofs.Determined as step
+use Rattle.enabling.proofs.Determined as enabling
 use Rattle.replay.proofs.replay.Kinds as replay-kinds
 use Rattle.replay.proofs.replay.Reads as replay-reads
 use Rattle.replay.proofs.Determined as replay
@@ -31,7 +32,7 @@ fire-answered = step.fire-answered
 
 -- The enabled list, with the numbers that are written.
 pub enabled-answered : Answered 5 enabled-kinds.ps enabled-kinds.r enabled-reads.Asked enabled-reads.Post
-enabled-answered = step.enabled-answered
+enabled-answered = enabling.enabled-answered
 
 -- Replay, with the marking buffer.
 pub replay-answered : Answered 3 replay-kinds.ps replay-kinds.r replay-reads.Asked replay-reads.Post

@@ -38,7 +38,7 @@ use Rattle.plan.proofs.Scopes.{named-scopes}
 use Rattle.plan.proofs.Loops.{loops-exclusive}
 use Rattle.boxes.specs.Compile.{accept}
 use Rattle.boxes.proofs.TablesAreANet.{accepted}
-use Rattle.step.specs.Form.{Recorded, step, no-step, read-steps}
+use Rattle.form.specs.Form.{Recorded, step, no-step, read-steps}
 use Rattle.run.specs.Run.{Verdict, finished, unfinished, refusal, Run, run}
 use Rattle.run.specs.Says.{ran-says}
 use Rattle.run.specs.declared.Ran.{Ran}

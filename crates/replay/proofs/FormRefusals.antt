@@ -10,7 +10,7 @@ use Rattle.field.specs.Refusals.{record-field-cut, wrong-tag, wrong-length, not
 use Rattle.field.specs.Answer.{Answer, good, refused, _>>=_, _>>_, check}
 use Rattle.field.specs.Field.{tag-of, length-of, body-of}
 use Rattle.algebra.specs.Item.{Item, first}
-use Rattle.step.specs.Form.{check-header, one-tag, two-tag, item-tag, action-count, item-spelt, read-item, read-items, StepRead, read-step, Recorded, ends, step, no-step, one-more, read-steps}
+use Rattle.form.specs.Form.{check-header, one-tag, two-tag, item-tag, action-count, item-spelt, read-item, read-items, StepRead, read-step, Recorded, ends, step, no-step, one-more, read-steps}
 use Rattle.replay.specs.Recorded.{After, now, later}
 
 abbrev pub FormNumber : ℕ → Type 0

@@ -16,7 +16,7 @@ use Rattle.algebra.specs.Marking.{entry-marking}
 use Rattle.net.specs.Marking.{check-room}
 use Rattle.net.proofs.Marking.{room-passed}
 use Rattle.boxes.specs.Compile.{accept}
-use Rattle.step.specs.Form.{read-record, read-steps}
+use Rattle.form.specs.Form.{read-record, read-steps}
 use Rattle.run.specs.Run.{run}
 use Rattle.run.specs.Says.{ran-says}
 use Rattle.run.specs.declared.Ran.{Ran}

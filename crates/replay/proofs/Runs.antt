@@ -14,7 +14,7 @@ use Rattle.algebra.specs.Net.{Net}
 use Rattle.algebra.specs.Marking.{exits-marked}
 use Rattle.algebra.specs.Firing.{fire-items}
 use Rattle.algebra.specs.InOrder.{fire-in-order}
-use Rattle.step.specs.Form.{Recorded, ends, step, no-step}
+use Rattle.form.specs.Form.{Recorded, ends, step, no-step}
 use Rattle.run.specs.Run.{Verdict, finished, unfinished, refusal, Run, go-on, run}
 use Rattle.replay.specs.Recorded.{steps-of, Whole, After, now, later}
 

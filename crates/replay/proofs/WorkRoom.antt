@@ -22,8 +22,8 @@ use Rattle.tables.specs.inner.Rows.{Whole, Asked}
 use Rattle.judging.specs.inner.Judging.{judged-says, net-counts, Drawn}
 use Rattle.judging.specs.declared.Judged.{Judged}
 use Rattle.judging.proofs.FinePlans.{IsFine, is-fine, asked, in-front, rows-long as rows-length}
-use Rattle.step.specs.inner.Naming.{transitions-within, InOrder}
-use Rattle.step.proofs.NetInOrder.{net-in-order, transitions-lent}
+use Rattle.moving.specs.inner.InOrder.{transitions-within, InOrder}
+use Rattle.moving.proofs.NetInOrder.{net-in-order, transitions-lent}
 use Rattle.replay.specs.declared.Sizes.{Sizes}
 use Rattle.replay.specs.inner.Fine.{fine, Told}
 use Rattle.replay.specs.inner.OnANet.{Holds}

@@ -2,7 +2,7 @@
 use Prim.Native.Nat.{ℕ, zero, suc}
 use mathlib.Core.List.{List, [], _∷_}
 use Rattle.algebra.specs.Item.{Item}
-use Rattle.step.specs.Form.{Recorded, ends, step, no-step}
+use Rattle.form.specs.Form.{Recorded, ends, step, no-step}
 
 -- All steps of a record, up to its end or to the first field that is no step.
 unfoldable pub steps-of : Recorded → List (List Item)

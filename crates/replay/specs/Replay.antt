@@ -9,7 +9,7 @@ use Rattle.net.specs.Marking.{check-room}
 use Rattle.algebra.specs.Marking.{entry-marking}
 use Rattle.algebra.specs.Arcs.{net-of}
 use Rattle.boxes.specs.Compile.{accept}
-use Rattle.step.specs.Form.{Recorded, read-record}
+use Rattle.form.specs.Form.{Recorded, read-record}
 use Rattle.run.specs.Run.{Verdict, refusal, run}
 
 -- What stands before the first step.

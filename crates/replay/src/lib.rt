@@ -6,7 +6,7 @@ ghost use lib.ListN.{length, replicate};
 ghost use Rattle.field.specs.Limits.{plan-limit};
 ghost use Rattle.algebra.specs.Net.{Net};
 ghost use Rattle.transitions.specs.inner.Numbers.{most};
-ghost use Rattle.step.specs.inner.Naming.{InOrder};
+ghost use Rattle.moving.specs.inner.InOrder.{InOrder};
 ghost use Rattle.run.specs.Says.{ran-says};
 ghost use Rattle.replay.specs.Replay;
 ghost use Rattle.replay.specs.inner.Fine.{Told, Known};

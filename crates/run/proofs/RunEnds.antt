@@ -10,8 +10,8 @@ use Rattle.field.specs.Answer.{Answer, refused}
 use Rattle.field.specs.Lists.{all}
 use Rattle.algebra.specs.Net.{Net}
 use Rattle.algebra.specs.Marking.{exits-marked}
-use Rattle.step.specs.Form.{Recorded, read-steps}
-use Rattle.step.specs.inner.Naming.{transitions-within}
+use Rattle.form.specs.Form.{Recorded, read-steps}
+use Rattle.moving.specs.inner.InOrder.{transitions-within}
 use Rattle.run.specs.Run.{Run, refuse, run}
 use Rattle.run.specs.inner.Steps.{StepTaken, step-of, take-step}
 use Rattle.run.specs.inner.Ends.{taken-says, TakenFits, Ends}

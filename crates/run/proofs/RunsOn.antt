@@ -13,7 +13,7 @@ use Rattle.field.specs.Answer.{Answer, good, refused, _>>=_}
 use Rattle.field.proofs.Answers.{bind-good, bind-refused, good-same, good-not-refused}
 use Rattle.algebra.specs.Net.{Net, Transition}
 use Rattle.algebra.specs.Firing.{fire-items}
-use Rattle.step.specs.Form.{Recorded, step, StepRead, read-step, one-more, read-steps}
+use Rattle.form.specs.Form.{Recorded, step, StepRead, read-step, one-more, read-steps}
 use Rattle.run.specs.Run.{refuse, run}
 use Rattle.run.specs.inner.Steps.{StepTaken, step-of, take-step}
 

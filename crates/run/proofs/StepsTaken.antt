@@ -13,14 +13,14 @@ use Rattle.field.proofs.Tests.{T-true}
 use Rattle.algebra.specs.Net.{Transition}
 use Rattle.algebra.specs.Firing.{fire-items}
 use Rattle.algebra.proofs.Fires.{moved-length, fires-of}
-use Rattle.step.specs.Form.{StepRead, read-step}
-use Rattle.step.specs.inner.FormSays.{items-in, Bytes, step-says, StepFits}
-use Rattle.step.specs.Says.{fired-says}
-use Rattle.step.specs.inner.Moves.{told, kept, Moves}
-use Rattle.step.specs.declared.Fired.{Fired}
-use Rattle.step.specs.declared.Fired.the-variants as fired
-use Rattle.step.specs.declared.form.StepAnswer.{StepAnswer}
-use Rattle.step.specs.declared.form.StepAnswer.the-variants as step-answer
+use Rattle.form.specs.Form.{StepRead, read-step}
+use Rattle.form.specs.inner.FormSays.{items-in, Bytes, step-says, StepFits}
+use Rattle.moving.specs.Says.{fired-says}
+use Rattle.moving.specs.inner.Moves.{told, kept, Moves}
+use Rattle.moving.specs.declared.Fired.{Fired}
+use Rattle.moving.specs.declared.Fired.the-variants as fired
+use Rattle.form.specs.declared.StepAnswer.{StepAnswer}
+use Rattle.form.specs.declared.StepAnswer.the-variants as step-answer
 use Rattle.run.specs.inner.Steps.{StepTaken, step-of, take-step}
 
 -- The step that code has read lies in the bytes, and the two lists hold its items.

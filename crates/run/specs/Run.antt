@@ -5,7 +5,7 @@ use mathlib.Core.Bool.{cond}
 use Rattle.field.specs.Answer.{Answer, good, refused}
 use Rattle.algebra.specs.Net.{Net}
 use Rattle.algebra.specs.Marking.{exits-marked}
-use Rattle.step.specs.Form.{Recorded, ends, step, no-step}
+use Rattle.form.specs.Form.{Recorded, ends, step, no-step}
 use Rattle.algebra.specs.Firing.{fire-items}
 
 -- "An accepted record is finished if all exit places are marked, else unfinished; its number of steps is told too."

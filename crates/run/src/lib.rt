@@ -7,8 +7,8 @@ ghost use lib.ListN.{length};
 ghost use lib.Dec.{leb};
 ghost use Rattle.field.specs.Lists.{all};
 ghost use Rattle.algebra.specs.Net.{Net};
-ghost use Rattle.step.specs.Form.{read-steps};
-ghost use Rattle.step.specs.inner.Naming.{transitions-within, InOrder};
+ghost use Rattle.form.specs.Form.{read-steps};
+ghost use Rattle.moving.specs.inner.InOrder.{transitions-within, InOrder};
 ghost use Rattle.run.specs.Run.{run};
 ghost use Rattle.run.specs.Says.{ran-says};
 use steps::Place;
@@ -40,9 +40,9 @@ pub fn run_record(
     let mut head = net::no_heads();
     let mut next = net::no_nexts();
     net::index_by_first(rows, transitions, &mut head, &mut next);
-    let mut firsts = step::form::no_numbers();
-    let mut seconds = step::form::no_numbers();
-    let mut ts = step::form::no_numbers();
+    let mut firsts = form::no_numbers();
+    let mut seconds = form::no_numbers();
+    let mut ts = form::no_numbers();
     steps::run_steps(
         rows,
         arcs,

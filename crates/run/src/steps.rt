@@ -8,19 +8,19 @@ ghost use lib.Dec.{leb};
 ghost use Rattle.field.specs.Lists.{all};
 ghost use Rattle.algebra.specs.Firing.{fire-items};
 ghost use Rattle.net.specs.inner.Chains.{Chains};
-ghost use Rattle.step.specs.Form.{read-steps};
-ghost use Rattle.step.specs.inner.FormSays.{items-in, Bytes};
-ghost use Rattle.step.specs.inner.Naming.{transitions-within, InOrder};
-ghost use Rattle.step.specs.inner.Moves.{Moves};
+ghost use Rattle.form.specs.Form.{read-steps};
+ghost use Rattle.form.specs.inner.FormSays.{items-in, Bytes};
+ghost use Rattle.moving.specs.inner.InOrder.{transitions-within, InOrder};
+ghost use Rattle.moving.specs.inner.Moves.{Moves};
 ghost use Rattle.run.specs.inner.Steps.{take-step};
 ghost use Rattle.run.specs.inner.Ends.{taken-says, TakenFits, Ends};
 use crate::Ran;
 use crate::exits;
+use form::MOST_ITEMS;
+use form::StepAnswer;
+use moving::Fired;
 use record::step_at;
-use step::Fired;
 use step::firing;
-use step::form::MOST_ITEMS;
-use step::form::StepAnswer;
 
 // How far a run has come: the offset of the next step, and the steps that fired.
 pub struct Place {

@@ -15,19 +15,21 @@ use Rattle.field.specs.Refusals.{no-transition, two-tokens}
 use Rattle.algebra.specs.Item.{Item}
 use Rattle.algebra.specs.Net.{Transition}
 use Rattle.algebra.specs.Firing.{transitions-named, check-marked, check-apart, moved, fire-items}
-use Rattle.step.specs.Form.{read-lent-step}
-use Rattle.step.specs.inner.FormSays.{items-in, items-say}
-use Rattle.step.specs.inner.Moving.{sides, moves, Fits, AllFit}
-use Rattle.step.specs.inner.Naming.{transition-in, transitions-within, found-says, InOrder}
-use Rattle.step.specs.inner.Moves.{Moves, read-and-fire}
-use Rattle.step.specs.declared.form.ItemsAnswer.{ItemsAnswer}
-use Rattle.step.specs.declared.form.ItemsAnswer.the-variants as items-answer
-use Rattle.step.specs.declared.Fired.{Fired}
-use Rattle.step.specs.declared.Fired.the-variants.{Done, Refused}
-use Rattle.step.proofs.MovesAreFiring.{ins-of, outs-of, Safe}
-use Rattle.step.proofs.MoveAnswers.{moves-refused}
-use Rattle.step.proofs.Outcome.{below-all, moves-are}
-use Rattle.step.proofs.Orders.{both-sides, transition-fits, transitions-rise}
+use Rattle.form.specs.Form.{read-lent-step}
+use Rattle.form.specs.inner.FormSays.{items-in, items-say}
+use Rattle.moving.specs.inner.Moving.{sides, moves, Fits, AllFit}
+use Rattle.moving.specs.inner.InOrder.{transition-in, transitions-within, InOrder}
+use Rattle.step.specs.inner.Naming.{found-says}
+use Rattle.moving.specs.inner.Moves.{Moves}
+use Rattle.step.specs.inner.Reads.{read-and-fire}
+use Rattle.form.specs.declared.ItemsAnswer.{ItemsAnswer}
+use Rattle.form.specs.declared.ItemsAnswer.the-variants as items-answer
+use Rattle.moving.specs.declared.Fired.{Fired}
+use Rattle.moving.specs.declared.Fired.the-variants.{Done, Refused}
+use Rattle.moving.proofs.MovesAreFiring.{ins-of, outs-of, Safe}
+use Rattle.moving.proofs.MoveAnswers.{moves-refused}
+use Rattle.moving.proofs.Outcome.{below-all, moves-are}
+use Rattle.moving.proofs.Orders.{both-sides, transition-fits, transitions-rise}
 
 fire-named : (net : List Transition) (m : List ℕ) (is : List Item) (us : List Transition) → transitions-named net 0 is ≡ good us
     → fire-items net m is ≡ (check-marked m 0 us >> (check-apart [] 0 us >> (check (all (λ x. leb x 1) (moved 0 us m)) two-tokens 0 >> good (moved 0 us m))))

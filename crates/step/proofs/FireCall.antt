@@ -12,12 +12,13 @@ use Rattle.net.specs.Tables.{Tables, transitions-in}
 use Rattle.net.specs.Check.{is-net, check-net}
 use Rattle.net.specs.Marking.{check-marking}
 use Rattle.step.specs.Fire.{fire-step, fired, fire}
-use Rattle.step.specs.inner.Naming.{transitions-within}
-use Rattle.step.specs.Says.{fired-says}
-use Rattle.step.specs.inner.Moves.{told, kept, Moves, read-and-fire}
-use Rattle.step.specs.declared.Fired.{Fired}
-use Rattle.step.specs.declared.Fired.the-variants.{Done, Refused}
-use Rattle.step.proofs.NetInOrder.{transitions-lent}
+use Rattle.moving.specs.inner.InOrder.{transitions-within}
+use Rattle.moving.specs.Says.{fired-says}
+use Rattle.moving.specs.inner.Moves.{told, kept, Moves}
+use Rattle.step.specs.inner.Reads.{read-and-fire}
+use Rattle.moving.specs.declared.Fired.{Fired}
+use Rattle.moving.specs.declared.Fired.the-variants.{Done, Refused}
+use Rattle.moving.proofs.NetInOrder.{transitions-lent}
 
 -- What the code answers and leaves is what the call says.
 abbrev pub Says : Fired → List ℕ → Tables → List ℕ → List ℕ → Type 0

@@ -17,12 +17,13 @@ use Rattle.algebra.specs.Item.{Item, one, two, same-item}
 use Rattle.algebra.specs.Net.{Transition}
 use Rattle.algebra.specs.Firing.{names, named-by, transitions-named}
 use Rattle.net.specs.Tables.{none, item-of, transition-at, transitions-from}
-use Rattle.step.specs.inner.FormSays.{paired}
+use Rattle.form.specs.inner.FormSays.{paired}
 use Rattle.net.specs.inner.Chains.{in-row, with-first, Chains}
 use Rattle.net.proofs.Walks.{ahead, Stands, walk-starts, walk-goes-on, walk-ends}
-use Rattle.step.specs.inner.Naming.{rows-and-arcs, transition-in, transitions-within, seek, seek-in, found-says}
-use Rattle.step.proofs.Bools.{test}
-use Rattle.step.proofs.ItemLists.{behind, behind-behind}
+use Rattle.moving.specs.inner.InOrder.{rows-and-arcs, transition-in, transitions-within}
+use Rattle.step.specs.inner.Naming.{seek, seek-in, found-says}
+use Rattle.field.proofs.Tests.{test}
+use Rattle.form.proofs.ItemLists.{behind, behind-behind}
 
 and-true : (b : Bool) → (b && true) ≡ b
 and-true true = refl

@@ -6,7 +6,7 @@ use Rattle.field.specs.Answer.{Answer, good, refused, _>>=_, _>>_}
 use Rattle.net.specs.Tables.{Tables, transitions-in}
 use Rattle.net.specs.Check.{check-net}
 use Rattle.net.specs.Marking.{check-marking}
-use Rattle.step.specs.Form.{read-lent-step}
+use Rattle.form.specs.Form.{read-lent-step}
 use Rattle.algebra.specs.Firing.{fire-items}
 
 unfoldable pub fire-step : Tables → List ℕ → List ℕ → Answer (List ℕ)

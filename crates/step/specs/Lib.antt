@@ -1,6 +1,2 @@
-pub mod Form
-pub mod Bytes
 pub mod Fire
-pub mod Enabled
-pub mod Says
 pub mod inner

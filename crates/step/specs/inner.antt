@@ -1,4 +1,2 @@
-pub mod FormSays
-pub mod Moving
-pub mod Moves
 pub mod Naming
+pub mod Reads

@@ -8,13 +8,13 @@ ghost use lib.Dec.{leb};
 ghost use Rattle.field.specs.Lists.{all};
 ghost use Rattle.algebra.specs.Firing.{transitions-named, fire-items};
 ghost use Rattle.net.specs.inner.Chains.{Chains};
-ghost use Rattle.step.specs.inner.FormSays.{paired, Bytes};
-ghost use Rattle.step.specs.inner.Naming.{transitions-within, seek, found-says, InOrder};
-ghost use Rattle.step.specs.inner.Moves.{Moves, read-and-fire};
-use crate::Fired;
-use crate::form;
-use crate::form::ItemsAnswer;
-use crate::moving;
+ghost use Rattle.form.specs.inner.FormSays.{paired, Bytes};
+ghost use Rattle.moving.specs.inner.InOrder.{transitions-within, InOrder};
+ghost use Rattle.step.specs.inner.Naming.{seek, found-says};
+ghost use Rattle.moving.specs.inner.Moves.{Moves};
+ghost use Rattle.step.specs.inner.Reads.{read-and-fire};
+use form::ItemsAnswer;
+use moving::Fired;
 
 // The transition, of so many, that has these two actions; the number of transitions where there is none. Only the chain of the first
 // action is walked.

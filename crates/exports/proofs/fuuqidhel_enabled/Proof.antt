@@ -3,8 +3,8 @@
 use mathlib.Core.Path.{refl, sym}
 use borrow.Author.Needs.{needs}
 use borrow.Author.Tests.{lt-leb, le-leb}
-use Rattle.step.specs.Says.{enabling-says}
-use Rattle.step.specs.declared.Enabling.the-variants.{Many, Stuck, Refused}
+use Rattle.enabling.specs.Says.{enabling-says}
+use Rattle.enabling.specs.declared.Enabling.the-variants.{Many, Stuck, Refused}
 use Rattle.exports.specs.Told.{enabled-tells}
 use Rattle.exports.proofs.Tells.{tells}
 use Rattle.exports.proofs.fuuqidhel_enabled.Statement.{statement}

@@ -3,8 +3,8 @@
 use mathlib.Core.Path.{refl, sym}
 use borrow.Author.Needs.{needs}
 use borrow.Author.Tests.{lt-leb, le-leb}
-use Rattle.step.specs.Says.{fired-says}
-use Rattle.step.specs.declared.Fired.the-variants.{Done, Refused}
+use Rattle.moving.specs.Says.{fired-says}
+use Rattle.moving.specs.declared.Fired.the-variants.{Done, Refused}
 use Rattle.exports.specs.Told.{fire-tells}
 use Rattle.exports.proofs.Tells.{tells}
 use Rattle.exports.proofs.fuuqidhel_fire.Statement.{statement}

@@ -44,11 +44,11 @@ use denote.Triple.Walked.{says, needs, Stays, stay-none, walkOf, goes-none, Walk
 use denote.Exit.{yes}
 use denote.Triple.Clauses.{ensured, lasts}
 use Rattle.record.specs.declared.RecordReader.{RecordReader}
-use Rattle.step.specs.declared.form.HeadAnswer.{HeadAnswer}
+use Rattle.form.specs.declared.HeadAnswer.{HeadAnswer}
 use Rattle.record.proofs.RecordReader as T
 use Rattle.record.proofs.RecordReader.Laws as T′
-use Rattle.step.proofs.form.HeadAnswer as S
-use Rattle.step.proofs.form.HeadAnswer.Laws as S′
+use Rattle.form.proofs.HeadAnswer as S
+use Rattle.form.proofs.HeadAnswer.Laws as S′
 use Rattle.record.proofs.HeadSaid.{Says, Fits}
 use Rattle.record.proofs.TwoClauses.{says-both, heard-both}
 use Rattle.record.proofs.head_at as head-at

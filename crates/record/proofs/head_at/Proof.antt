@@ -1,7 +1,7 @@
 -- `record::head_at`: the header at the front of what stands behind the offset.
 -- What is behind the offset is lent whole, so `step_head`'s contract at it is this one.
 use borrow.Author.Needs.{needs}
-use Rattle.step.proofs.ItemLists.{rest-part}
+use Rattle.form.proofs.ItemLists.{rest-part}
 use Rattle.record.proofs.head_at.Statement.{statement}
 use Rattle.record.proofs.head_at.Tie as tie
 

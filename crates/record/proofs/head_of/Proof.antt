@@ -39,9 +39,9 @@ use denote.Triple.Table.{entered, cited}
 use denote.Triple.Walked.{says, needs, Stays, stay-none, stay-none-slice, walkOf, goes-none, goes-none-slice, Walks, ends-at, walked, walk-meets}
 use denote.Exit.{yes}
 use denote.Triple.Clauses.{ensured, lasts}
-use Rattle.step.specs.declared.form.HeadAnswer.{HeadAnswer}
-use Rattle.step.proofs.form.HeadAnswer as S
-use Rattle.step.proofs.form.HeadAnswer.Laws as S′
+use Rattle.form.specs.declared.HeadAnswer.{HeadAnswer}
+use Rattle.form.proofs.HeadAnswer as S
+use Rattle.form.proofs.HeadAnswer.Laws as S′
 use Rattle.record.specs.declared.RecordReader.{RecordReader}
 use Rattle.record.proofs.RecordReader as T
 use Rattle.record.proofs.RecordReader.Laws as T′

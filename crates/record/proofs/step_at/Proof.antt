@@ -5,14 +5,14 @@ use Prim.Native.Nat.{ℕ, _+_, _≤_}
 use mathlib.Core.List.{List}
 use borrow.Author.Needs.{needs}
 use lib.ListN.{length, drop, length-drop}
-use Rattle.step.proofs.StepForms.{step-refused, step-items-refused, step-read, items-fit}
+use Rattle.form.proofs.StepForms.{step-refused, step-items-refused, step-read, items-fit}
 use Rattle.record.proofs.StepThere.{items-there, step-inside}
 use Rattle.record.proofs.step_at.Statement.{statement}
 use Rattle.record.proofs.step_at.Tie as tie
 use Rattle.record.proofs.step_at.Reads as reads
 use Rattle.record.proofs.step_at.Lts as lts
 use Rattle.record.proofs.head_of.Reads as head-of-reads
-use Rattle.step.proofs.form.read_items.Reads as read-items-reads
+use Rattle.form.proofs.read_items.Reads as read-items-reads
 
 abbrev claims : lts.Claims
 claims = (head-of-reads.Asked, head-of-reads.Learnt, read-items-reads.Asked, read-items-reads.Learnt)

@@ -7,7 +7,7 @@ use borrow.Author.Tests.{not-true, not-false}
 use lib.ListN.{length}
 use lib.Seq.{length-take-le}
 use Rattle.field.specs.Limits.{record-limit}
-use Rattle.step.specs.inner.Naming.{InOrder}
+use Rattle.moving.specs.inner.InOrder.{InOrder}
 use Rattle.replay.proofs.ReplayCall.{reaches, no-room, too-long, runs}
 use borrow.Author.Needs.{needs}
 use Rattle.replay.proofs.replay_net.Statement.{statement}

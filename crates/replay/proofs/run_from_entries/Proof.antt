@@ -6,7 +6,7 @@ use borrow.Author.Needs.{needs}
 use lib.ListN.{length}
 use lib.Dec.{leb}
 use Rattle.field.specs.Lists.{all}
-use Rattle.step.specs.inner.Naming.{InOrder}
+use Rattle.moving.specs.inner.InOrder.{InOrder}
 use Rattle.replay.proofs.EntryMarking.{entry-marking-is, entries-length, entries-safe}
 use Rattle.replay.proofs.ReplayCall.{runs-from-entries}
 use Rattle.replay.proofs.run_from_entries.Statement.{statement}

@@ -7,8 +7,8 @@ use Rattle.field.specs.Answer.{Answer, good, _>>=_, _>>_}
 use Rattle.algebra.specs.Net.{Net, place-count}
 use Rattle.algebra.specs.Marking.{entry-marking}
 use Rattle.net.specs.Marking.{check-room}
-use Rattle.step.specs.Form.{read-steps, read-record}
-use Rattle.step.specs.inner.Naming.{transitions-within}
+use Rattle.form.specs.Form.{read-steps, read-record}
+use Rattle.moving.specs.inner.InOrder.{transitions-within}
 use Rattle.run.specs.Run.{run}
 use Rattle.run.specs.Says.{ran-says}
 use Rattle.run.specs.declared.Ran.{Ran}

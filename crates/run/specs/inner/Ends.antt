@@ -4,8 +4,8 @@ use mathlib.Core.Path.{_≡_}
 use mathlib.Core.List.{List}
 use Rattle.field.specs.Answer.{Answer, refused}
 use Rattle.algebra.specs.Net.{Net}
-use Rattle.step.specs.Form.{Recorded}
-use Rattle.step.specs.inner.Naming.{transitions-within}
+use Rattle.form.specs.Form.{Recorded}
+use Rattle.moving.specs.inner.InOrder.{transitions-within}
 use Rattle.run.specs.Run.{run}
 use Rattle.run.specs.Says.{ran-says}
 use Rattle.run.specs.inner.Steps.{StepTaken, step-of}

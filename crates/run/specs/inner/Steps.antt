@@ -4,7 +4,7 @@ use mathlib.Core.List.{List}
 use Rattle.field.specs.Answer.{Answer, good, _>>=_, _>>_}
 use Rattle.algebra.specs.Net.{Transition}
 use Rattle.algebra.specs.Firing.{fire-items}
-use Rattle.step.specs.Form.{read-step}
+use Rattle.form.specs.Form.{read-step}
 
 -- The bytes that a step takes, and the marking after it.
 pub record StepTaken : Type 0 where

@@ -4,7 +4,7 @@ use borrow.Author.Needs.{needs}
 use borrow.Author.Tests.{not-true, not-false}
 use lib.Seq.{length-take-le}
 use Rattle.net.specs.Lent.{lent}
-use Rattle.step.proofs.Checked.{marking-good, lent-order}
+use Rattle.moving.proofs.Checked.{marking-good, lent-order}
 use Rattle.step.proofs.FireCall.{no-net-lent, no-marking-lent, step-lent}
 use Rattle.step.proofs.fire.Statement.{statement}
 use Rattle.step.proofs.fire.Tie as tie

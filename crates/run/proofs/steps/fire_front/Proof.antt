@@ -2,7 +2,7 @@
 use mathlib.Core.Path.{sym, _∙_}
 use borrow.Author.Needs.{needs}
 use lib.Seq.{length-take-le}
-use Rattle.step.proofs.StepForms.{bytes-part}
+use Rattle.form.proofs.StepForms.{bytes-part}
 use Rattle.run.proofs.steps.fire_front.Statement.{statement}
 use Rattle.run.proofs.steps.fire_front.Tie as tie
 

@@ -9,8 +9,8 @@ use borrow.Author.Needs.{needs}
 use lib.ListN.{length, drop, length-drop}
 use lib.Dec.{leb}
 use Rattle.field.specs.Lists.{all}
-use Rattle.step.specs.Form.{read-steps}
-use Rattle.step.specs.inner.Naming.{transitions-within, InOrder}
+use Rattle.form.specs.Form.{read-steps}
+use Rattle.moving.specs.inner.InOrder.{transitions-within, InOrder}
 use Rattle.run.specs.inner.Steps.{take-step}
 use Rattle.run.proofs.StepsTaken.{marking-after}
 use Rattle.run.proofs.RunEnds.{Same, ends-finished, ends-unfinished, ends-refused, step-fired, step-within, goes-on}

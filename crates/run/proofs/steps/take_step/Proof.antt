@@ -4,8 +4,8 @@ use mathlib.Core.Path.{refl}
 use native.Mathlib.Omega.{arith}
 use borrow.Author.Needs.{needs}
 use lib.ListN.{length, drop}
-use Rattle.step.specs.inner.FormSays.{Bytes}
-use Rattle.step.specs.inner.Naming.{transitions-within}
+use Rattle.form.specs.inner.FormSays.{Bytes}
+use Rattle.moving.specs.inner.InOrder.{transitions-within}
 use Rattle.run.proofs.StepsTaken.{step-fits, no-step-taken, step-taken, step-not-taken}
 use Rattle.run.proofs.steps.take_step.Statement.{statement}
 use Rattle.run.proofs.steps.take_step.Tie as tie

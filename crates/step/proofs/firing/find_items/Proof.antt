@@ -6,9 +6,9 @@ use native.Mathlib.Omega.{arith}
 use borrow.Author.Needs.{needs}
 use lib.ListN.{length, getD, take, drop, length-set}
 use Rattle.algebra.specs.Firing.{transitions-named}
-use Rattle.step.specs.inner.FormSays.{paired}
-use Rattle.step.specs.inner.Naming.{transition-in, transitions-within}
-use Rattle.step.proofs.ItemLists.{behind, behind-none, below-set}
+use Rattle.form.specs.inner.FormSays.{paired}
+use Rattle.moving.specs.inner.InOrder.{transition-in, transitions-within}
+use Rattle.form.proofs.ItemLists.{behind, behind-none, below-set}
 use Rattle.step.proofs.Names.{naming-end, naming-none, naming-turn}
 use Rattle.step.proofs.firing.find_items.Statement.{statement}
 use Rattle.step.proofs.firing.find_items.Tie as tie

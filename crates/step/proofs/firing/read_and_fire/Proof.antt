@@ -5,15 +5,15 @@ use native.Mathlib.Omega.{arith}
 use borrow.Author.Needs.{needs}
 use lib.ListN.{length, length-replicate}
 use lib.Seq.{length-take-le}
-use Rattle.step.specs.inner.FormSays.{Bytes}
-use Rattle.step.proofs.StepForms.{items-fit, bytes-part}
+use Rattle.form.specs.inner.FormSays.{Bytes}
+use Rattle.form.proofs.StepForms.{items-fit, bytes-part}
 use Rattle.step.proofs.FireAnswers.{step-refused, step-fired}
 use Rattle.step.proofs.firing.read_and_fire.Statement.{statement}
 use Rattle.step.proofs.firing.read_and_fire.Tie as tie
 use Rattle.step.proofs.firing.read_and_fire.Reads as reads
 use Rattle.step.proofs.firing.read_and_fire.Lts as lts
-use Rattle.step.proofs.form.no_numbers.Reads as no-numbers-reads
-use Rattle.step.proofs.form.read_lent_step.Reads as read-lent-step-reads
+use Rattle.form.proofs.no_numbers.Reads as no-numbers-reads
+use Rattle.form.proofs.read_lent_step.Reads as read-lent-step-reads
 use Rattle.step.proofs.firing.fire_items.Reads as fire-items-reads
 
 -- where the items were read, and there is room for their transitions

@@ -1,0 +1,10 @@
+pub mod MoveTurns
+pub mod Filled
+pub mod MoveAnswers
+pub mod MovesAreFiring
+pub mod Outcome
+pub mod Orders
+pub mod NetInOrder
+pub mod Checked
+pub mod CountedPart
+pub mod SixPlaces

@@ -1,0 +1,3 @@
+pub mod InOrder
+pub mod Moving
+pub mod Moves
