@@ -154,13 +154,14 @@ fn an_arc_too_many() {
     );
 }
 
-// `⟨(a‖b)⊗c⊗d⟩`: a 0→2, b 1→3, c 2 3→2 3, d 2 3→4. {a,b}, 2,338 times {c}, {d}: 11 + 2,338·7 + 7 = 16,384 bytes, 2,340 steps.
+// `(⟨a⊗a⊗a⟩‖⟨a'⊗a'⊗a'⟩) sc a`: (0,3) 0 1→2 3, (1,4) 2 3→2 3, (2,5) 2 3→4 5, where 4 and 5 are the exits. {(0,3)}, 2,046 times {(1,4)},
+// {(2,5)} are 2,048 steps of 8 bytes: 16,384.
 fn full_record(text: &[u8]) {
     let mut record = [0u8; field::RECORD_LIMIT];
     fill(&mut record);
     replayed_whole(
         text,
-        b"\x05\x00\x13\x04\x00\x08\x01\x00\x01\x01\x01\x00\x01\x02\x01\x00\x01\x03\x01\x00\x01\x04",
+        b"\x06\x00\x22\x01\x04\x00\x1e\x05\x00\x0c\x01\x00\x01\x01\x01\x00\x01\x01\x01\x00\x01\x01\x05\x00\x0c\x01\x00\x01\x81\x01\x00\x01\x81\x01\x00\x01\x81",
         &record,
     );
 }

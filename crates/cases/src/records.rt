@@ -1,41 +1,27 @@
 // A record as long as a record may be.
 ghost use Prim.Native.Nat.{_≤_};
 
-// The header of a step: 3 bytes.
-fn put_header(out: &mut [u8; field::RECORD_LIMIT], at: usize, length: u8)
-    requires { ⌜ at ≤ 16381 ⌝ }
+// A step of one item of two actions: 3 + 5 bytes.
+fn put_pair(out: &mut [u8; field::RECORD_LIMIT], at: usize, first: u8, second: u8)
+    requires { ⌜ at ≤ 16376 ⌝ }
 {
     out[at] = 0x20;
     out[at + 1] = 0;
-    out[at + 2] = length;
+    out[at + 2] = 5;
+    out[at + 3] = 0x22;
+    out[at + 4] = 0;
+    out[at + 5] = 2;
+    out[at + 6] = first;
+    out[at + 7] = second;
 }
 
-// An item of one action: 4 bytes.
-fn put_item(out: &mut [u8; field::RECORD_LIMIT], at: usize, action: u8)
-    requires { ⌜ at ≤ 16380 ⌝ }
-{
-    out[at] = 0x21;
-    out[at + 1] = 0;
-    out[at + 2] = 1;
-    out[at + 3] = action;
-}
-
-fn put_step(out: &mut [u8; field::RECORD_LIMIT], at: usize, action: u8)
-    requires { ⌜ at ≤ 16377 ⌝ }
-{
-    put_header(out, at, 4);
-    put_item(out, at + 3, action);
-}
-
-// The step {0, 1}, 3 + 4 + 4 = 11 bytes; then {2}, 7 bytes each, up to 7 bytes before the end; then {3}.
+// The steps {(0,3)}, then {(1,4)} up to 8 bytes before the end, then {(2,5)}.
 pub fn fill(out: &mut [u8; field::RECORD_LIMIT]) {
-    put_header(out, 0, 8);
-    put_item(out, 3, 0);
-    put_item(out, 7, 1);
-    let mut at = 11;
-    while at < 16377 {
-        put_step(out, at, 2);
-        at += 7;
+    put_pair(out, 0, 0, 3);
+    let mut at = 8;
+    while at < 16376 {
+        put_pair(out, at, 1, 4);
+        at += 8;
     }
-    put_step(out, 16377, 3);
+    put_pair(out, 16376, 2, 5);
 }

@@ -1,4 +1,4 @@
--- `fill`: seven bytes less are left each time.
+-- `fill`: eight bytes less are left each time.
 -- Assumes nothing.
 use Prim.Native.Nat.{_≤_, _-_}
 use borrow.Author.Needs.{needs}
@@ -17,8 +17,6 @@ fill-spec =
     (tie.spec
     Inv-loop
     μ-loop
-    (λ c κs. search needs)
-    (λ c κs. search needs)
     (λ c κs. search needs)
     (λ c. search needs)
     (λ c κs. search needs)
