@@ -98,6 +98,25 @@ known-order =
     ∷ transition 7 (one 6) (6 ∷ 8 ∷ 10 ∷ 12 ∷ 14 ∷ 16 ∷ 18 ∷ 20 ∷ []) (22 ∷ [])
     ∷ transition 8 (one 7) (7 ∷ 9 ∷ 11 ∷ 13 ∷ 15 ∷ 17 ∷ 19 ∷ 21 ∷ []) (23 ∷ [])
     ∷ [])
+    -- the same with internals in each operand: ⟨((a;b)‖c)⊗((d‖e);(f‖g))⊗(h‖(i;j))⟩ has 2 of E, 3 to 6 of F, 7 of G, and then the product:
+    -- the place of the x-th exit of E, the y-th of F, the z-th entry of F and the w-th of G is 8 + 8x + 4y + 2z + w
+    ∷ order
+    (loop
+    (parallel (sequence (action 1) (action 2)) (action 3))
+    (sequence (beside 4 5) (beside 6 7))
+    (parallel (action 8) (sequence (action 9) (action 10))))
+    2 22 2 26 80 10
+    (transition 1 (one 0) (0 ∷ []) (2 ∷ [])
+    ∷ transition 2 (one 1) (2 ∷ []) (8 ∷ 9 ∷ 10 ∷ 11 ∷ 12 ∷ 13 ∷ 14 ∷ 15 ∷ [])
+    ∷ transition 3 (one 2) (1 ∷ []) (16 ∷ 17 ∷ 18 ∷ 19 ∷ 20 ∷ 21 ∷ 22 ∷ 23 ∷ [])
+    ∷ transition 4 (one 3) (8 ∷ 9 ∷ 12 ∷ 13 ∷ 16 ∷ 17 ∷ 20 ∷ 21 ∷ []) (3 ∷ 4 ∷ [])
+    ∷ transition 5 (one 4) (10 ∷ 11 ∷ 14 ∷ 15 ∷ 18 ∷ 19 ∷ 22 ∷ 23 ∷ []) (5 ∷ 6 ∷ [])
+    ∷ transition 6 (one 5) (3 ∷ 5 ∷ []) (8 ∷ 9 ∷ 10 ∷ 11 ∷ 16 ∷ 17 ∷ 18 ∷ 19 ∷ [])
+    ∷ transition 7 (one 6) (4 ∷ 6 ∷ []) (12 ∷ 13 ∷ 14 ∷ 15 ∷ 20 ∷ 21 ∷ 22 ∷ 23 ∷ [])
+    ∷ transition 8 (one 7) (8 ∷ 10 ∷ 12 ∷ 14 ∷ 16 ∷ 18 ∷ 20 ∷ 22 ∷ []) (24 ∷ [])
+    ∷ transition 9 (one 8) (9 ∷ 11 ∷ 13 ∷ 15 ∷ 17 ∷ 19 ∷ 21 ∷ 23 ∷ []) (7 ∷ [])
+    ∷ transition 10 (one 9) (7 ∷ []) (25 ∷ [])
+    ∷ [])
     -- "keeps the rest in order, then adds a silent one for each pair .. ordered by t, then u": (((a;b)‖a)‖(a'‖(c;a'))) sc a
     ∷ order
     (scope 1

@@ -29,6 +29,18 @@ fn said_compiling(answer: Compiling) {
     console::say(b"\n");
 }
 
+fn said_enabling(answer: Enabling) {
+    match answer {
+        Enabling::Many(many) => {
+            console::say(b"enabled ");
+            console::say_number(many);
+        }
+        Enabling::Stuck => console::say(b"stuck"),
+        Enabling::Refused(number, carried) => console::say_refused(number, carried),
+    }
+    console::say(b"\n");
+}
+
 // Compiles a plan into tables that any net fits in.
 pub fn compiled(text: &[u8], plan: &[u8]) {
     title(text);
@@ -38,17 +50,24 @@ pub fn compiled(text: &[u8], plan: &[u8]) {
     said_compiling(compile::compile(plan, &mut kinds, &mut rows, &mut arcs));
 }
 
-fn compiled_first(text: &[u8], plan: &[u8], n: usize)
-    requires { ⌜ n ≤ length (now plan) ⌝ }
+fn part(bytes: &[u8], n: usize) -> &[u8]
+    requires { ⌜ n ≤ length (now bytes) ⌝ }
 {
-    compiled(text, &plan[..n]);
+    &bytes[..n]
+}
+
+// The first n bytes of a plan's buffer.
+pub fn first(plan: &[u8; ROOM], n: usize) -> &[u8]
+    requires { ⌜ n ≤ 8192 ⌝ }
+{
+    part(plan, n)
 }
 
 // Compiles the plan of the first n bytes.
 pub fn made(text: &[u8], plan: &[u8; ROOM], n: usize)
     requires { ⌜ n ≤ 8192 ⌝ }
 {
-    compiled_first(text, plan, n);
+    compiled(text, first(plan, n));
 }
 
 // Compiles a plan into the lent tables.
@@ -71,6 +90,11 @@ pub fn replayed_in(text: &[u8], plan: &[u8], record: &[u8], marking: &mut [u8]) 
         Ran::Refused(number, carried, steps) => console::say_stopped(number, carried, steps),
     }
     console::say(b"\n");
+}
+
+// Replays a record as long as a record may be.
+pub fn replayed_whole(text: &[u8], plan: &[u8], record: &[u8; field::RECORD_LIMIT]) {
+    replayed(text, plan, record);
 }
 
 pub fn replayed(text: &[u8], plan: &[u8], record: &[u8]) {
@@ -133,13 +157,32 @@ pub fn listed(text: &[u8], marking: &[u8], list: &mut [u16]) {
         1,
     ];
     let arcs = [0, 2, 1, 3, 2, 3, 4];
-    match enabling::enabled(&kinds, &rows, &arcs, 5, 3, 7, marking, list) {
-        Enabling::Many(many) => {
-            console::say(b"enabled ");
-            console::say_number(many);
-        }
-        Enabling::Stuck => console::say(b"stuck"),
-        Enabling::Refused(number, carried) => console::say_refused(number, carried),
+    said_enabling(enabling::enabled(&kinds, &rows, &arcs, 5, 3, 7, marking, list));
+}
+
+// Compiles a plan into tables that any net fits in, and lists what is enabled on its net at a marking.
+pub fn listed_on(text: &[u8], plan: &[u8], marking: &[u8], list: &mut [u16]) {
+    title(text);
+    let mut kinds = [0u8; field::PLACE_LIMIT];
+    let mut rows = [0u16; ROWS_ROOM];
+    let mut arcs = [0u16; field::ARC_LIMIT];
+    match compile::compile(plan, &mut kinds, &mut rows, &mut arcs) {
+        Compiling::Refused(number, carried) => said_compiling(Compiling::Refused(number, carried)),
+        Compiling::Made {
+            places,
+            transitions,
+            arcs: count,
+            entries,
+            internals,
+        } => said_enabling(enabling::enabled(
+            &kinds,
+            &rows,
+            &arcs,
+            places,
+            transitions,
+            count,
+            marking,
+            list,
+        )),
     }
-    console::say(b"\n");
 }
