@@ -22,7 +22,7 @@ use Rattle.compile.proofs.Determined.{said-once}
 use Rattle.compile.proofs.compile.Kinds as call
 use Rattle.compile.proofs.compile.Reads as reads
 
--- The first stated fault of a plan and three three-lent tables: "Plan: 1; then fields in byte order ..; 10 after all reading; then 11, 12, 13, 14".
+-- The first stated fault of a plan and three lent tables: "Plan: 1; then fields in byte order ..; 10 after all reading; then 11, 12, 13, 14".
 -- 1 to 9 are given as the plan is read, 10 by its loops, 11 to 13 by the size of its net, 14 by the tables.
 pub data FirstFault (plan kinds rows arcs : List ℕ) (n c : ℕ) : Type 0 where
   as-read : read-plan plan ≡ refused n c → FirstFault plan kinds rows arcs n c

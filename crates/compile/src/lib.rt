@@ -1,4 +1,4 @@
-// 01, "Net tables": the compile call, from the plan to the three three-lent tables. It judges first and then writes: each row and each arc once,
+// 01, "Net tables": the compile call, from the plan to the three lent tables. It judges first and then writes: each row and each arc once,
 // where it belongs.
 pub mod front;
 pub mod judging;
@@ -48,7 +48,7 @@ pub enum Compiling {
     },
 }
 
-// 14: each three-lent table holds what is to be written.
+// 14: each lent table holds what is to be written.
 fn tables_reach(
     kinds: &[u8],
     rows: &[u16],
@@ -63,7 +63,7 @@ fn tables_reach(
     (places <= kinds.len()) & ((6 * transitions <= rows.len()) & (arc_count <= arcs.len()))
 }
 
-// The call, in room that is three-lent too. The node table is no longer asked for when the arcs are written, and so is room to merge in.
+// The call, in room that is lent too. The node table is no longer asked for when the arcs are written, and so is room to merge in.
 fn compile_in(
     plan: &[u8],
     table: &mut [u16],
@@ -149,7 +149,7 @@ fn compile_small(plan: &[u8], kinds: &mut [u8], rows: &mut [u16], arcs: &mut [u1
     )
 }
 
-// The three tables of the plan's net. Nothing three-lent is written before all is known, and on refusal nothing is; what lies behind the net's part
+// The three tables of the plan's net. Nothing lent is written before all is known, and on refusal nothing is; what lies behind the net's part
 // is never touched.
 pub fn compile(plan: &[u8], kinds: &mut [u8], rows: &mut [u16], arcs: &mut [u16]) -> Compiling
     ensures answer { λ r. ⌜ compiling-says r ≡ paper.compile (now (plan .entry)) (three-lent (now (kinds .entry)) (now (rows .entry)) (now (arcs .entry))) .answer ⌝ }
