@@ -88,8 +88,8 @@ module _ (side : Side) (i : ℕ) where
   abbrev test : Place → Bool
   test = passes side i
 
-  joined : (xs ys : List Place) {zs : List Bool} → map test ys ≡ zs → map test (xs ++ ys) ≡ map test xs ++ zs
-  joined xs ys e = map-append test xs ys ∙ ap (λ l. map test xs ++ l) e
+  test-append : (xs ys : List Place) {zs : List Bool} → map test ys ≡ zs → map test (xs ++ ys) ≡ map test xs ++ zs
+  test-append xs ys e = map-append test xs ys ∙ ap (λ l. map test xs ++ l) e
 
   module _ (n : ℕ) (E F : Expr) where
     abbrev m : ℕ
@@ -98,18 +98,18 @@ module _ (side : Side) (i : ℕ) where
     pub box-of-sequence : box side i n (sequence E F) ≡ sequence-box (box side i n E) (box side i m F)
     unfolding entries internals exits
     box-of-sequence = same-box refl
-        (joined (internals n E) _ (joined (internals m F) _ (map-product sequence-place test test test (exits n E) (entries m F) (exit-entry i side n m E F)))) refl
+        (test-append (internals n E) _ (test-append (internals m F) _ (map-product sequence-place test test test (exits n E) (entries m F) (exit-entry i side n m E F)))) refl
 
     pub box-of-choice : box side i n (choice E F) ≡ choice-box (box side i n E) (box side i m F)
     unfolding entries internals exits
     box-of-choice = same-box
         (map-product choice-entry test test test (entries n E) (entries m F) (two-entries i side n m E F))
-        (joined (internals n E) (internals m F) refl)
+        (test-append (internals n E) (internals m F) refl)
         (map-product choice-exit test test test (exits n E) (exits m F) (two-exits i side n m E F))
 
     pub box-of-parallel : box side i n (parallel E F) ≡ parallel-box (box side i n E) (box side i m F)
     unfolding entries internals exits
-    box-of-parallel = same-box (joined (entries n E) (entries m F) refl) (joined (internals n E) (internals m F) refl) (joined (exits n E) (exits m F) refl)
+    box-of-parallel = same-box (test-append (entries n E) (entries m F) refl) (test-append (internals n E) (internals m F) refl) (test-append (exits n E) (exits m F) refl)
 
     module _ (G : Expr) where
       abbrev o : ℕ
@@ -121,7 +121,7 @@ module _ (side : Side) (i : ℕ) where
       pub box-of-loop : box side i n (loop E F G) ≡ loop-box (box side i n E) (box side i m F) (box side i o G)
       unfolding entries internals exits
       box-of-loop = same-box refl
-          (joined (internals n E) _ (joined (internals m F) _ (joined (internals o G) _
+          (test-append (internals n E) _ (test-append (internals m F) _ (test-append (internals o G) _
           (map-product loop-of test (either-passes i side) (either-passes i side) (product pair (exits n E) (exits m F)) (product pair (entries m F) (entries o G))
           (loop-passes i side n m o E F G)
           ∙ ap₂ either (pairs (exits n E) (exits m F)) (pairs (entries m F) (entries o G)))))) refl

@@ -24,3 +24,7 @@ module _ (n : ℕ) (ps : List (PK n)) (r : RK n) where
   pub record Answered (asked : In n ps) (post : Out n ps r) : Type 0 where
     pub free : (κs : Lfts n) (a : Dens κs ps) → asked κs a
     pub one : (κs : Lfts n) (a : Dens κs ps) → One (Allowed post κs a)
+
+  -- Of a call that asks something: the contract still allows one result at every input, and so wherever what it asks is met.
+  pub record Determined (post : Out n ps r) : Type 0 where
+    pub one : (κs : Lfts n) (a : Dens κs ps) → One (Allowed post κs a)

@@ -12,8 +12,8 @@ pub record KnownStep : Type 0 where
   pub bytes : List ℕ
   pub items : Answer (List Item)
 
-abbrev lent : List ℕ → Answer (List Item) → KnownStep
-lent s r = record { bytes = s; items = r }
+abbrev known-step : List ℕ → Answer (List Item) → KnownStep
+known-step s r = record { bytes = s; items = r }
 
 -- what a lent step is refused with: 21 to 24 carry the "step's offset", here 0
 abbrev no : ℕ → Answer (List Item)
@@ -22,45 +22,45 @@ no n = refused n 0
 abbrev known-lent : List KnownStep
 known-lent =
     -- "21 hex with one action, or 22 hex with two, the a side first": {(3,1), 4}
-    lent (0x20 ∷ 0 ∷ 9 ∷ 0x22 ∷ 0 ∷ 2 ∷ 3 ∷ 1 ∷ 0x21 ∷ 0 ∷ 1 ∷ 4 ∷ []) (good (two 3 1 ∷ one 4 ∷ []))
+    known-step (0x20 ∷ 0 ∷ 9 ∷ 0x22 ∷ 0 ∷ 2 ∷ 3 ∷ 1 ∷ 0x21 ∷ 0 ∷ 1 ∷ 4 ∷ []) (good (two 3 1 ∷ one 4 ∷ []))
     -- "First actions strictly rise": {0, 255}; {(3,9), (4,0)}, where second actions do not
-    ∷ lent (0x20 ∷ 0 ∷ 8 ∷ 0x21 ∷ 0 ∷ 1 ∷ 0 ∷ 0x21 ∷ 0 ∷ 1 ∷ 255 ∷ []) (good (one 0 ∷ one 255 ∷ []))
-    ∷ lent (0x20 ∷ 0 ∷ 10 ∷ 0x22 ∷ 0 ∷ 2 ∷ 3 ∷ 9 ∷ 0x22 ∷ 0 ∷ 2 ∷ 4 ∷ 0 ∷ []) (good (two 3 9 ∷ two 4 0 ∷ []))
+    ∷ known-step (0x20 ∷ 0 ∷ 8 ∷ 0x21 ∷ 0 ∷ 1 ∷ 0 ∷ 0x21 ∷ 0 ∷ 1 ∷ 255 ∷ []) (good (one 0 ∷ one 255 ∷ []))
+    ∷ known-step (0x20 ∷ 0 ∷ 10 ∷ 0x22 ∷ 0 ∷ 2 ∷ 3 ∷ 9 ∷ 0x22 ∷ 0 ∷ 2 ∷ 4 ∷ 0 ∷ []) (good (two 3 9 ∷ two 4 0 ∷ []))
     -- 24: equal, and falling
-    ∷ lent (0x20 ∷ 0 ∷ 9 ∷ 0x21 ∷ 0 ∷ 1 ∷ 3 ∷ 0x22 ∷ 0 ∷ 2 ∷ 3 ∷ 9 ∷ []) (no 24)
-    ∷ lent (0x20 ∷ 0 ∷ 9 ∷ 0x22 ∷ 0 ∷ 2 ∷ 3 ∷ 1 ∷ 0x21 ∷ 0 ∷ 1 ∷ 2 ∷ []) (no 24)
+    ∷ known-step (0x20 ∷ 0 ∷ 9 ∷ 0x21 ∷ 0 ∷ 1 ∷ 3 ∷ 0x22 ∷ 0 ∷ 2 ∷ 3 ∷ 9 ∷ []) (no 24)
+    ∷ known-step (0x20 ∷ 0 ∷ 9 ∷ 0x22 ∷ 0 ∷ 2 ∷ 3 ∷ 1 ∷ 0x21 ∷ 0 ∷ 1 ∷ 2 ∷ []) (no 24)
     -- "a step's own header": "21 is under 3 bytes left or a length beyond what encloses the field, and both stand before 22"
-    ∷ lent [] (no 21)
-    ∷ lent (0x20 ∷ 0 ∷ []) (no 21)
-    ∷ lent (0x19 ∷ 0 ∷ []) (no 21)
-    ∷ lent (0x19 ∷ 0 ∷ 9 ∷ []) (no 21)
-    ∷ lent (0x20 ∷ 1 ∷ 0 ∷ 0x21 ∷ 0 ∷ 1 ∷ 0 ∷ []) (no 21)
+    ∷ known-step [] (no 21)
+    ∷ known-step (0x20 ∷ 0 ∷ []) (no 21)
+    ∷ known-step (0x19 ∷ 0 ∷ []) (no 21)
+    ∷ known-step (0x19 ∷ 0 ∷ 9 ∷ []) (no 21)
+    ∷ known-step (0x20 ∷ 1 ∷ 0 ∷ 0x21 ∷ 0 ∷ 1 ∷ 0 ∷ []) (no 21)
     -- 22 before 23: the wrong tag of an empty step, or with a byte behind; an item's tag is no step's
-    ∷ lent (0x19 ∷ 0 ∷ 0 ∷ []) (no 22)
-    ∷ lent (0x19 ∷ 0 ∷ 0 ∷ 9 ∷ []) (no 22)
-    ∷ lent (0x21 ∷ 0 ∷ 1 ∷ 0 ∷ []) (no 22)
+    ∷ known-step (0x19 ∷ 0 ∷ 0 ∷ []) (no 22)
+    ∷ known-step (0x19 ∷ 0 ∷ 0 ∷ 9 ∷ []) (no 22)
+    ∷ known-step (0x21 ∷ 0 ∷ 1 ∷ 0 ∷ []) (no 22)
     -- 23, "empty step": "a step of no items is not" good
-    ∷ lent (0x20 ∷ 0 ∷ 0 ∷ []) (no 23)
+    ∷ known-step (0x20 ∷ 0 ∷ 0 ∷ []) (no 23)
     -- "bytes behind it are 23, tested before the items": behind a good item, before its 21, before its 22
-    ∷ lent (0x20 ∷ 0 ∷ 4 ∷ 0x21 ∷ 0 ∷ 1 ∷ 0 ∷ 9 ∷ []) (no 23)
-    ∷ lent (0x20 ∷ 0 ∷ 1 ∷ 0x21 ∷ 9 ∷ []) (no 23)
-    ∷ lent (0x20 ∷ 0 ∷ 4 ∷ 0x19 ∷ 0 ∷ 1 ∷ 0 ∷ 9 ∷ []) (no 23)
+    ∷ known-step (0x20 ∷ 0 ∷ 4 ∷ 0x21 ∷ 0 ∷ 1 ∷ 0 ∷ 9 ∷ []) (no 23)
+    ∷ known-step (0x20 ∷ 0 ∷ 1 ∷ 0x21 ∷ 9 ∷ []) (no 23)
+    ∷ known-step (0x20 ∷ 0 ∷ 4 ∷ 0x19 ∷ 0 ∷ 1 ∷ 0 ∷ 9 ∷ []) (no 23)
     -- "for each 21": under 3 bytes left; a length beyond the step's body, before the wrong tag
-    ∷ lent (0x20 ∷ 0 ∷ 6 ∷ 0x21 ∷ 0 ∷ 1 ∷ 0 ∷ 0x21 ∷ 0 ∷ []) (no 21)
-    ∷ lent (0x20 ∷ 0 ∷ 4 ∷ 0x19 ∷ 0 ∷ 2 ∷ 0 ∷ []) (no 21)
+    ∷ known-step (0x20 ∷ 0 ∷ 6 ∷ 0x21 ∷ 0 ∷ 1 ∷ 0 ∷ 0x21 ∷ 0 ∷ []) (no 21)
+    ∷ known-step (0x20 ∷ 0 ∷ 4 ∷ 0x19 ∷ 0 ∷ 2 ∷ 0 ∷ []) (no 21)
     -- "22": a wrong tag, before the wrong length; a step's tag is no item's
-    ∷ lent (0x20 ∷ 0 ∷ 4 ∷ 0x19 ∷ 0 ∷ 1 ∷ 0 ∷ []) (no 22)
-    ∷ lent (0x20 ∷ 0 ∷ 3 ∷ 0x23 ∷ 0 ∷ 0 ∷ []) (no 22)
-    ∷ lent (0x20 ∷ 0 ∷ 4 ∷ 0x20 ∷ 0 ∷ 1 ∷ 0 ∷ []) (no 22)
+    ∷ known-step (0x20 ∷ 0 ∷ 4 ∷ 0x19 ∷ 0 ∷ 1 ∷ 0 ∷ []) (no 22)
+    ∷ known-step (0x20 ∷ 0 ∷ 3 ∷ 0x23 ∷ 0 ∷ 0 ∷ []) (no 22)
+    ∷ known-step (0x20 ∷ 0 ∷ 4 ∷ 0x20 ∷ 0 ∷ 1 ∷ 0 ∷ []) (no 22)
     -- "23": one action in an item of two, two or none in an item of one; before the 24 of the same item
-    ∷ lent (0x20 ∷ 0 ∷ 4 ∷ 0x22 ∷ 0 ∷ 1 ∷ 0 ∷ []) (no 23)
-    ∷ lent (0x20 ∷ 0 ∷ 6 ∷ 0x22 ∷ 0 ∷ 3 ∷ 0 ∷ 1 ∷ 2 ∷ []) (no 23)
-    ∷ lent (0x20 ∷ 0 ∷ 3 ∷ 0x21 ∷ 0 ∷ 0 ∷ []) (no 23)
-    ∷ lent (0x20 ∷ 0 ∷ 9 ∷ 0x21 ∷ 0 ∷ 1 ∷ 3 ∷ 0x21 ∷ 0 ∷ 2 ∷ 0 ∷ 0 ∷ []) (no 23)
+    ∷ known-step (0x20 ∷ 0 ∷ 4 ∷ 0x22 ∷ 0 ∷ 1 ∷ 0 ∷ []) (no 23)
+    ∷ known-step (0x20 ∷ 0 ∷ 6 ∷ 0x22 ∷ 0 ∷ 3 ∷ 0 ∷ 1 ∷ 2 ∷ []) (no 23)
+    ∷ known-step (0x20 ∷ 0 ∷ 3 ∷ 0x21 ∷ 0 ∷ 0 ∷ []) (no 23)
+    ∷ known-step (0x20 ∷ 0 ∷ 9 ∷ 0x21 ∷ 0 ∷ 1 ∷ 3 ∷ 0x21 ∷ 0 ∷ 2 ∷ 0 ∷ 0 ∷ []) (no 23)
     -- "items left to right": an item's 22, 23, 24 before the 21 of the one behind it
-    ∷ lent (0x20 ∷ 0 ∷ 5 ∷ 0x19 ∷ 0 ∷ 1 ∷ 0 ∷ 0x21 ∷ []) (no 22)
-    ∷ lent (0x20 ∷ 0 ∷ 6 ∷ 0x21 ∷ 0 ∷ 2 ∷ 0 ∷ 0 ∷ 0x21 ∷ []) (no 23)
-    ∷ lent (0x20 ∷ 0 ∷ 9 ∷ 0x21 ∷ 0 ∷ 1 ∷ 3 ∷ 0x21 ∷ 0 ∷ 1 ∷ 3 ∷ 0x19 ∷ []) (no 24)
+    ∷ known-step (0x20 ∷ 0 ∷ 5 ∷ 0x19 ∷ 0 ∷ 1 ∷ 0 ∷ 0x21 ∷ []) (no 22)
+    ∷ known-step (0x20 ∷ 0 ∷ 6 ∷ 0x21 ∷ 0 ∷ 2 ∷ 0 ∷ 0 ∷ 0x21 ∷ []) (no 23)
+    ∷ known-step (0x20 ∷ 0 ∷ 9 ∷ 0x21 ∷ 0 ∷ 1 ∷ 3 ∷ 0x21 ∷ 0 ∷ 1 ∷ 3 ∷ 0x19 ∷ []) (no 24)
     ∷ []
 
 pub record KnownRecord : Type 0 where

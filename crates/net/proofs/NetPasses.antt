@@ -84,15 +84,16 @@ three-fit : (a a′ b b′ c c′ : ℕ) → a ≤ a′ → b ≤ b′ → c ≤
 three-fit a a′ b b′ c c′ p q r = parts-and (leb a a′) (leb b b′ && leb c c′) (le→leb a a′ p) (parts-and (leb b b′) (leb c c′) (le→leb b b′ q) (le→leb c c′ r))
 
 module _ (N : Net) (o : Orderly N) (kinds rows arcs : List ℕ) where
-  abbrev lent : Tables
-  lent = lent-tables N kinds rows arcs
+  -- The net's tables, with whatever lies behind them.
+  abbrev longer : Tables
+  longer = lent-tables N kinds rows arcs
 
-  counts-pass : T (counts-fit lent)
+  counts-pass : T (counts-fit longer)
   unfolding counts-fit
   counts-pass =
       three-fit (place-count N) place-limit (length (N .transitions)) transition-limit (length (arcs-of N)) arc-limit (o .few-places) (o .few-transitions) (o .few-arcs)
 
-  tables-pass : T (tables-reach lent)
+  tables-pass : T (tables-reach longer)
   unfolding tables-reach rows-of
   tables-pass =
       three-fit (place-count N) (length (kinds-of N ++ kinds)) (6 * length (N .transitions)) (length (rows-of N ++ rows)) (length (arcs-of N)) (length (arcs-of N ++ arcs))
@@ -106,23 +107,23 @@ module _ (N : Net) (o : Orderly N) (kinds rows arcs : List ℕ) where
       subst⁻¹ (λ (l : List ℕ). T (kinds-ordered l)) (take-at (kinds-of N) kinds (place-count N) (kinds-length N))
       (kinds-ordered-of (N .entries) (N .internals) (N .exits) (o .some-entry) (o .some-exit))
 
-  starts-pass : T (starts-meet lent 0 0 (length (N .transitions)))
+  starts-pass : T (starts-meet longer 0 0 (length (N .transitions)))
   unfolding rows-of arcs-of
-  starts-pass = starts-meet-from lent 0 0 (N .transitions) rows refl (omega arith)
+  starts-pass = starts-meet-from longer 0 0 (N .transitions) rows refl (omega arith)
 
   -- A test of the net's transitions that passes also passes of the transitions in the lent tables.
-  read-pass : (test : List Transition → Bool) → T (test (N .transitions)) → T (test (transitions-in lent))
+  read-pass : (test : List Transition → Bool) → T (test (N .transitions)) → T (test (transitions-in longer))
   read-pass test h = subst⁻¹ (λ (ts : List Transition). T (test ts)) (lent-read-back N (o .codes) kinds rows arcs) h
 
-  lent-is-net : T (is-net lent)
+  lent-is-net : T (is-net longer)
   unfolding is-net
   lent-is-net =
-      parts-and (counts-fit lent) _ counts-pass
-      (parts-and (tables-reach lent) _ tables-pass
+      parts-and (counts-fit longer) _ counts-pass
+      (parts-and (tables-reach longer) _ tables-pass
       (parts-and (kinds-ordered (take (place-count N) (kinds-of N ++ kinds))) _ kinds-pass
-      (parts-and (all (lists-rise (place-count N)) (transitions-in lent)) _ (read-pass (all (lists-rise (place-count N))) (o .lists))
-      (parts-and (starts-meet lent 0 0 (length (N .transitions))) _ starts-pass
-      (parts-and (all codes-fit (transitions-in lent)) (pairs-differ (transitions-in lent)) (read-pass (all codes-fit) (o .codes)) (read-pass pairs-differ (o .pairs)))))))
+      (parts-and (all (lists-rise (place-count N)) (transitions-in longer)) _ (read-pass (all (lists-rise (place-count N))) (o .lists))
+      (parts-and (starts-meet longer 0 0 (length (N .transitions))) _ starts-pass
+      (parts-and (all codes-fit (transitions-in longer)) (pairs-differ (transitions-in longer)) (read-pass (all codes-fit) (o .codes)) (read-pass pairs-differ (o .pairs)))))))
 
 pub lent-passes : (N : Net) → Orderly N → (kinds rows arcs : List ℕ) → check-net (lent-tables N kinds rows arcs) ≡ good tt
 unfolding check-net

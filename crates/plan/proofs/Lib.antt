@@ -16,3 +16,4 @@ pub mod Readers
 pub mod Rows
 pub mod Stores
 pub mod WholePlan
+pub mod ReaderDetermined

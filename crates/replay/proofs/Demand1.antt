@@ -7,6 +7,10 @@ use Rattle.compile.proofs.compile.Reads as compile-reads
 use Rattle.compile.proofs.Determined as compile
 use Rattle.net.proofs.is_net.Kinds as is-net-kinds
 use Rattle.net.proofs.is_net.Reads as is-net-reads
+use Rattle.net.proofs.tokens.is_marking.Kinds as is-marking-kinds
+use Rattle.net.proofs.tokens.is_marking.Reads as is-marking-reads
+use Rattle.net.proofs.tokens.has_room.Kinds as has-room-kinds
+use Rattle.net.proofs.tokens.has_room.Reads as has-room-reads
 use Rattle.net.proofs.Determined as net
 use Rattle.step.proofs.fire.Kinds as fire-kinds
 use Rattle.step.proofs.fire.Reads as fire-reads
@@ -25,6 +29,13 @@ compile-answered = compile.compile-answered
 -- Check 30.
 pub is-net-answered : Answered 3 is-net-kinds.ps is-net-kinds.r is-net-reads.Asked is-net-reads.Post
 is-net-answered = net.is-net-answered
+
+-- Check 35, of a marking and of replay's buffer.
+pub is-marking-answered : Answered 1 is-marking-kinds.ps is-marking-kinds.r is-marking-reads.Asked is-marking-reads.Post
+is-marking-answered = net.is-marking-answered
+
+pub has-room-answered : Answered 1 has-room-kinds.ps has-room-kinds.r has-room-reads.Asked has-room-reads.Post
+has-room-answered = net.has-room-answered
 
 -- Firing a step, with the marking.
 pub fire-answered : Answered 5 fire-kinds.ps fire-kinds.r fire-reads.Asked fire-reads.Post

@@ -4,19 +4,10 @@ use mathlib.Core.Path.{_≡_, refl, sym, _∙_}
 use contract.Lifetimes.{Lfts}
 use borrow.Fn.Kinds.{Dens}
 use Rattle.field.proofs.OneResult.{One, Allowed, Answered}
-use Rattle.run.specs.Run.{Verdict, finished, unfinished, refusal}
-use Rattle.run.specs.Says.{ran-says}
-use Rattle.run.specs.declared.Ran.{Ran}
-use Rattle.run.specs.declared.Ran.the-variants.{Finished, Unfinished, Refused}
-use Rattle.run.proofs.Determined.{ran-once}
+use Rattle.run.proofs.Determined.{ran-once, ran-said}
 use Rattle.replay.specs.Replay.{replay}
 use Rattle.replay.proofs.replay.Kinds as kinds
 use Rattle.replay.proofs.replay.Reads as reads
-
-said : (v : Verdict) → (r : Ran) × (ran-says r ≡ v)
-said (finished k) = (Finished k, refl)
-said (unfinished k) = (Unfinished k, refl)
-said (refusal n c k) = (Refused n c k, refl)
 
 pub replay-answered : Answered 3 kinds.ps kinds.r reads.Asked reads.Post
 replay-answered = record { free = λ κs a. tt; one = one }
@@ -24,7 +15,7 @@ replay-answered = record { free = λ κs a. tt; one = one }
     one : (κs : Lfts 3) (a : Dens κs kinds.ps) → One (Allowed 3 kinds.ps kinds.r reads.Post κs a)
     one κs a =
         let d = replay (a .0 .now) (a .1 .0 .now) (a .1 .1 .0 .now) in
-        let r = said (d .verdict) in
+        let r = ran-said (d .verdict) in
         record {
           some = ((r .0, (tt, (tt, (d .buffer, tt)))), (r .1, refl));
           only = λ x y p q.

@@ -78,9 +78,9 @@ module _ {lists index : List ℕ} {E : Expr} (d : Drafted lists index E) where
 
   -- ---- an item that the expression has
   module _ (x : Labelled) (m : List·Memᴰ x (transitions 0 E)) where
-    joined : (side : Side) (i j : ℕ) → x .item ≡ two i j → length (item-places E side (two i j)) ≡ length (item-places E side (one i)) + length (item-places E side (one j))
-    joined Inputs = joined-inputs E (d .loops) (d .scopes) x m
-    joined Outputs = joined-outputs E (d .loops) (d .scopes) x m
+    pair-length : (side : Side) (i j : ℕ) → x .item ≡ two i j → length (item-places E side (two i j)) ≡ length (item-places E side (one i)) + length (item-places E side (one j))
+    pair-length Inputs = joined-inputs E (d .loops) (d .scopes) x m
+    pair-length Outputs = joined-outputs E (d .loops) (d .scopes) x m
 
     pub its-actions : Below (actions E) (x .item)
     its-actions = go (x .item) (items-in-range 0 E x m)
@@ -94,7 +94,7 @@ module _ {lists index : List ℕ} {E : Expr} (d : Drafted lists index E) where
       where
         go : (t : Item) → x .item ≡ t → Below (actions E) t → item-arcs (told-count index side) t ≡ length (item-places E side t)
         go (one i) e r = told-one side i r
-        go (two i j) e r = omega (arith, told-one side i (r .0), told-one side j (r .1), joined side i j e)
+        go (two i j) e r = omega (arith, told-one side i (r .0), told-one side j (r .1), pair-length side i j e)
 
     pub item-few : (side : Side) → item-arcs (told-count index side) (x .item) ≤ 2048
     item-few side = omega (arith, item-told side, numbers-few (by-item (passes side) (x .item)) (places 0 E), d .few)
