@@ -9,7 +9,6 @@ use mathlib.Core.List.{List, [], _∷_, _++_, List·Memᴰ, List·Memᴰ·head, 
 use lib.ListN.{replicate}
 use lib.Dec.{T, leb}
 use Rattle.field.specs.Answer.{Answer, good, refused}
-use Rattle.field.specs.Refusals.{no-transition, input-empty, input-shared}
 use Rattle.field.proofs.Answers.{good-not-refused}
 use Rattle.algebra.specs.Expr.{Expr}
 use Rattle.algebra.specs.Item.{Item}
@@ -82,7 +81,7 @@ module _ (E : Expr) (exclusive : LoopsExclusive E) (scopes : ScopesNamed E) wher
   pub record NextRefused (R : List (List Item)) (S : List Item) (n : ℕ) : Type 0 where
     pub before : (D : Dynamic E) × Derived E R D
     pub not-derived : (D D′ : Dynamic E) (S′ : List Item) → Derived E R D → Bag S′ S → Step 0 E D S′ D′ → ⊥
-    pub number : (n ≡ no-transition) ⊎ ((n ≡ input-empty) ⊎ (n ≡ input-shared))
+    pub number : (n ≡ 31) ⊎ ((n ≡ 32) ⊎ (n ≡ 33))
 
   pub next-refused : (R : List (List Item)) (S : List Item) (m : List ℕ) (n c : ℕ) → FiredTo R m → fire-items net m S ≡ refused n c → NextRefused R S n
   next-refused R S m n c e r = record { before = one-state R m e .some; not-derived = never; number = which (subst (λ k. FireRefused net k S n) (sym (l .marked)) (fire-refused net m S n c r)) }
@@ -95,7 +94,7 @@ module _ (E : Expr) (exclusive : LoopsExclusive E) (scopes : ScopesNamed E) wher
           let fires = subst (λ l. fire-items net l S ≡ good (marking-of D′)) (one-state R m e .marking D d) (derives-fires E exclusive scopes D D′ S (in-any-order s b)) in
           good-not-refused (fire-items net m S) (marking-of D′) n c fires r
 
-      which : FireRefused net (marking-of (l .to)) S n → (n ≡ no-transition) ⊎ ((n ≡ input-empty) ⊎ (n ≡ input-shared))
+      which : FireRefused net (marking-of (l .to)) S n → (n ≡ 31) ⊎ ((n ≡ 32) ⊎ (n ≡ 33))
       which (of-31 q) = inl q
       which (of-32 q) = inr (inl q)
       which (of-33 q) = inr (inr q)

@@ -1,3 +1,4 @@
+pub mod AFewBoxes
 pub mod Items
 pub mod Lists
 pub mod Products

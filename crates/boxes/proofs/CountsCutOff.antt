@@ -111,13 +111,13 @@ internal-count-is (loop E F G) =
     (product-agrees (product-agrees (exits-agree E) (exits-agree F)) (product-agrees (entries-agree F) (entries-agree G))))) .same
 internal-count-is (scope a E) = internal-count-is E
 
-pub place-count-is : (n : ℕ) (E : Expr) → places-cut-off E ≡ cut place-limit (length (places n E))
+pub place-count-is : (n : ℕ) (E : Expr) → places-cut-off E ≡ cut 2048 (length (places n E))
 unfolding places-cut-off
 place-count-is n E =
     sum-agrees (entries-agree E) (sum-agrees (places-agree (internal-count-is E)) (exits-agree E)) .same
     ∙ ap (cut place-limit) (sym (places-length n E))
 
-pub transition-count-is : (E : Expr) → transition-count E ≡ cut transition-limit (length (net-of E .transitions))
+pub transition-count-is : (E : Expr) → transition-count E ≡ cut 1024 (length (net-of E .transitions))
 unfolding transition-count net-of
 transition-count-is E = ap (cut transition-limit) (sym (length-map (transitions 0 E) (transition-of (places 0 E))))
 
@@ -126,7 +126,7 @@ unfolding arcs-up-to arcs-from
 arcs-up-to-is limit [] = omega arith
 arcs-up-to-is limit (t ∷ ts) = simp length-append (omega (arith, arcs-up-to-is limit ts))
 
-pub arc-count-is : (E : Expr) → arc-count E ≡ cut arc-limit (length (arcs-of (net-of E)))
+pub arc-count-is : (E : Expr) → arc-count E ≡ cut 16384 (length (arcs-of (net-of E)))
 unfolding arc-count arcs-of
 arc-count-is E = arcs-up-to-is arc-limit (net-of E .transitions)
 
@@ -162,9 +162,9 @@ judge p t a = check p too-many-places 0 >> (check t too-many-transitions 0 >> ch
 
 -- the limit that is passed first, and the refusal that says so
 pub data Beyond (places transitions arcs n c : ℕ) : Type 0 where
-  places-beyond : n ≡ too-many-places → c ≡ 0 → place-limit < places → Beyond places transitions arcs n c
-  transitions-beyond : n ≡ too-many-transitions → c ≡ 0 → places ≤ place-limit → transition-limit < transitions → Beyond places transitions arcs n c
-  arcs-beyond : n ≡ too-many-arcs → c ≡ 0 → places ≤ place-limit → transitions ≤ transition-limit → arc-limit < arcs → Beyond places transitions arcs n c
+  places-beyond : n ≡ 11 → c ≡ 0 → 2048 < places → Beyond places transitions arcs n c
+  transitions-beyond : n ≡ 12 → c ≡ 0 → places ≤ 2048 → 1024 < transitions → Beyond places transitions arcs n c
+  arcs-beyond : n ≡ 13 → c ≡ 0 → places ≤ 2048 → transitions ≤ 1024 → 16384 < arcs → Beyond places transitions arcs n c
 
 -- a refusal is no acceptance
 never : {X : Type 0} (n c : ℕ) → _≡_ {A = Answer (Unit {0})} (refused n c) (good tt) → X
@@ -193,11 +193,11 @@ module _ {places transitions arcs : ℕ} where
   passed (beyond v) w x e = places-beyond (cc) (cc) v
 
 pub size-accepted : (E : Expr) → check-size E ≡ good tt
-    → (length (places 0 E) ≤ place-limit) × (length (net-of E .transitions) ≤ transition-limit) × (length (arcs-of (net-of E)) ≤ arc-limit)
+    → (length (places 0 E) ≤ 2048) × (length (net-of E .transitions) ≤ 1024) × (length (arcs-of (net-of E)) ≤ 16384)
 unfolding check-size
 size-accepted E e = accepted (places-verdict E) (transitions-verdict E) (arcs-verdict E) e
 
-pub size-fits : (E : Expr) → length (places 0 E) ≤ place-limit → length (net-of E .transitions) ≤ transition-limit → length (arcs-of (net-of E)) ≤ arc-limit
+pub size-fits : (E : Expr) → length (places 0 E) ≤ 2048 → length (net-of E .transitions) ≤ 1024 → length (arcs-of (net-of E)) ≤ 16384
     → check-size E ≡ good tt
 unfolding check-size
 size-fits E = fits (places-verdict E) (transitions-verdict E) (arcs-verdict E)

@@ -5,7 +5,6 @@ use mathlib.Core.Path.{_≡_, refl}
 use mathlib.Core.List.{List, [], _∷_, _++_, map}
 use lib.ListN.{length, replicate}
 use Rattle.field.specs.Answer.{good, refused}
-use Rattle.net.specs.Tables.{none}
 use Rattle.boxes.specs.Compile.{Lent, Counts, Compiled, compile}
 
 abbrev pub full-room : Lent
@@ -43,21 +42,21 @@ known =
     record {
       plan = ab-then-c;
       compiled = net (counts 5 3 7 2 2) (1 ∷ 1 ∷ 2 ∷ 2 ∷ 3 ∷ [])
-          (1 ∷ 0 ∷ none ∷ 0 ∷ 1 ∷ 1 ∷ 2 ∷ 1 ∷ none ∷ 2 ∷ 1 ∷ 1 ∷ 3 ∷ 2 ∷ none ∷ 4 ∷ 2 ∷ 1 ∷ [])
+          (1 ∷ 0 ∷ 65535 ∷ 0 ∷ 1 ∷ 1 ∷ 2 ∷ 1 ∷ 65535 ∷ 2 ∷ 1 ∷ 1 ∷ 3 ∷ 2 ∷ 65535 ∷ 4 ∷ 2 ∷ 1 ∷ [])
           (0 ∷ 2 ∷ 1 ∷ 3 ∷ 2 ∷ 3 ∷ 4 ∷ []);
     }
     -- (a‖b)□c: 4 places; 0→2, 1→3, 0 1→2 3
     ∷ record {
       plan = 0x03 ∷ 0x00 ∷ 0x0F ∷ 0x04 ∷ 0x00 ∷ 0x08 ∷ 0x01 ∷ 0x00 ∷ 0x01 ∷ 0x01 ∷ 0x01 ∷ 0x00 ∷ 0x01 ∷ 0x02 ∷ 0x01 ∷ 0x00 ∷ 0x01 ∷ 0x03 ∷ [];
       compiled = net (counts 4 3 8 2 0) (1 ∷ 1 ∷ 3 ∷ 3 ∷ [])
-          (1 ∷ 0 ∷ none ∷ 0 ∷ 1 ∷ 1 ∷ 2 ∷ 1 ∷ none ∷ 2 ∷ 1 ∷ 1 ∷ 3 ∷ 2 ∷ none ∷ 4 ∷ 2 ∷ 2 ∷ [])
+          (1 ∷ 0 ∷ 65535 ∷ 0 ∷ 1 ∷ 1 ∷ 2 ∷ 1 ∷ 65535 ∷ 2 ∷ 1 ∷ 1 ∷ 3 ∷ 2 ∷ 65535 ∷ 4 ∷ 2 ∷ 2 ∷ [])
           (0 ∷ 2 ∷ 1 ∷ 3 ∷ 0 ∷ 1 ∷ 2 ∷ 3 ∷ []);
     }
     -- ⟨a⊗b⊗c⟩: 0→1, 1→1, 1→2
     ∷ record {
       plan = 0x05 ∷ 0x00 ∷ 0x0C ∷ 0x01 ∷ 0x00 ∷ 0x01 ∷ 0x01 ∷ 0x01 ∷ 0x00 ∷ 0x01 ∷ 0x02 ∷ 0x01 ∷ 0x00 ∷ 0x01 ∷ 0x03 ∷ [];
       compiled = net (counts 3 3 6 1 1) (1 ∷ 2 ∷ 3 ∷ [])
-          (1 ∷ 0 ∷ none ∷ 0 ∷ 1 ∷ 1 ∷ 2 ∷ 1 ∷ none ∷ 2 ∷ 1 ∷ 1 ∷ 3 ∷ 2 ∷ none ∷ 4 ∷ 1 ∷ 1 ∷ [])
+          (1 ∷ 0 ∷ 65535 ∷ 0 ∷ 1 ∷ 1 ∷ 2 ∷ 1 ∷ 65535 ∷ 2 ∷ 1 ∷ 1 ∷ 3 ∷ 2 ∷ 65535 ∷ 4 ∷ 1 ∷ 1 ∷ [])
           (0 ∷ 1 ∷ 1 ∷ 1 ∷ 1 ∷ 2 ∷ []);
     }
     -- ⟨c⊗((a‖b);e)⊗d⟩: 6 places; c 0→3 4, a 3→1, b 4→2, e 1 2→3 4, d 3 4→5
@@ -66,7 +65,7 @@ known =
           0x05 ∷ 0x00 ∷ 0x1A ∷ 0x01 ∷ 0x00 ∷ 0x01 ∷ 0x03 ∷ 0x02 ∷ 0x00 ∷ 0x0F ∷ 0x04 ∷ 0x00 ∷ 0x08 ∷ 0x01 ∷ 0x00 ∷ 0x01 ∷ 0x01 ∷ 0x01 ∷ 0x00 ∷ 0x01 ∷ 0x02
           ∷ 0x01 ∷ 0x00 ∷ 0x01 ∷ 0x05 ∷ 0x01 ∷ 0x00 ∷ 0x01 ∷ 0x04 ∷ [];
       compiled = net (counts 6 5 14 1 4) (1 ∷ 2 ∷ 2 ∷ 2 ∷ 2 ∷ 3 ∷ [])
-          (3 ∷ 0 ∷ none ∷ 0 ∷ 1 ∷ 2 ∷ 1 ∷ 1 ∷ none ∷ 3 ∷ 1 ∷ 1 ∷ 2 ∷ 2 ∷ none ∷ 5 ∷ 1 ∷ 1 ∷ 5 ∷ 3 ∷ none ∷ 7 ∷ 2 ∷ 2 ∷ 4 ∷ 4 ∷ none ∷ 11 ∷ 2 ∷ 1 ∷ [])
+          (3 ∷ 0 ∷ 65535 ∷ 0 ∷ 1 ∷ 2 ∷ 1 ∷ 1 ∷ 65535 ∷ 3 ∷ 1 ∷ 1 ∷ 2 ∷ 2 ∷ 65535 ∷ 5 ∷ 1 ∷ 1 ∷ 5 ∷ 3 ∷ 65535 ∷ 7 ∷ 2 ∷ 2 ∷ 4 ∷ 4 ∷ 65535 ∷ 11 ∷ 2 ∷ 1 ∷ [])
           (0 ∷ 3 ∷ 4 ∷ 3 ∷ 1 ∷ 4 ∷ 2 ∷ 1 ∷ 2 ∷ 3 ∷ 4 ∷ 3 ∷ 4 ∷ 5 ∷ []);
     }
     -- (a‖a') sc a: one silent 0 1→2 3

@@ -94,6 +94,7 @@ known-refused =
     ∷ refusal (behind (labelled 0x80)) 6 7
     ∷ refusal (behind (field 6 (0 ∷ labelled 1))) 6 7
     ∷ refusal (behind (field 6 (0x80 ∷ []))) 6 7
+    ∷ refusal (behind (field 6 (0x81 ∷ labelled 1))) 6 7
     -- 4 and 6 before 7: the 257th action is no action
     ∷ refusal (field 2 (encode most-actions ++ (1 ∷ 0 ∷ 2 ∷ 1 ∷ 1 ∷ []))) 4 1792
     ∷ refusal (field 2 (encode most-actions ++ labelled 0x80)) 6 1792
@@ -118,6 +119,7 @@ known-refused =
     -- its offset, as each operand of each field
     ∷ refusal (encode (sequence a faulty)) 10 7
     ∷ refusal (encode (choice a faulty)) 10 7
+    ∷ refusal (encode (parallel faulty a)) 10 3
     ∷ refusal (encode (parallel (scope 1 (sequence a b)) (scope 1 faulty))) 10 22
     ∷ refusal (encode (loop faulty b c)) 10 3
     ∷ refusal (encode (loop a faulty c)) 10 7
@@ -159,13 +161,21 @@ too-short = room 2 12 4 ∷ room 3 11 4 ∷ room 3 12 3 ∷ []
 abbrev unwritten : ℕ → ℕ → Lent → Compiled
 unwritten n c lent = record { answer = refused n c; tables = lent }
 
+abbrev written : Compiled
+written = record {
+  answer = good (record { places = 3; transitions = 2; arcs = 4; entries = 1; internals = 1 });
+  tables = record { kinds = 1 ∷ 2 ∷ 3 ∷ []; rows = 1 ∷ 0 ∷ 65535 ∷ 0 ∷ 1 ∷ 1 ∷ 2 ∷ 1 ∷ 65535 ∷ 2 ∷ 1 ∷ 1 ∷ []; arcs = 0 ∷ 1 ∷ 1 ∷ 2 ∷ [] };
+}
+
 pub record KnownRefusals : Type 0 where
   refusals : map (λ (k : KnownRefusal). accept (k .plan)) known-refused ≡ map (λ (k : KnownRefusal). refused (k .number) (k .carried)) known-refused
   accepted : map (λ E. accept (encode E)) known-accepted ≡ map good known-accepted
   short : map (compile (encode (sequence a b))) too-short ≡ map (unwritten 14 0) too-short
+  -- just the room is enough
+  enough : compile (encode (sequence a b)) (room 3 12 4) ≡ written
   -- "13, 14": the plan's faults before the tables'
   faulty-and-short : map (compile (encode (sequence a faulty))) too-short ≡ map (unwritten 10 7) too-short
 
 pub known-refusals : KnownRefusals
 unfolding accept compile field encode
-known-refusals = record { refusals = refl; accepted = refl; short = refl; faulty-and-short = refl }
+known-refusals = record { refusals = refl; accepted = refl; short = refl; enough = refl; faulty-and-short = refl }

@@ -6,8 +6,6 @@ use native.Mathlib.Nat.{le-trans}
 use mathlib.Core.Path.{_≡_, refl}
 use lib.ListN.{length}
 use lib.Dec.{lit<, lit≤}
-use Rattle.field.specs.Limits.{plan-limit}
-use Rattle.field.specs.Refusals.{too-many-places}
 use Rattle.field.specs.Answer.{refused}
 use Rattle.algebra.specs.Expr.{Expr, action, choice, parallel}
 use Rattle.plan.specs.Bytes.{encode}
@@ -20,7 +18,7 @@ use Rattle.algebra.proofs.Lengths.{entries-of, places-length}
 abbrev pub wide : Expr
 wide = tree choice 6 (tree parallel 2 (action 1))
 
-pub astronomical-short : length (encode wide) ≤ plan-limit
+pub astronomical-short : length (encode wide) ≤ 4096
 unfolding encode
 astronomical-short = lit≤ tt
 
@@ -38,6 +36,6 @@ entries-inside E = omega (arith, places-length 0 E)
 pub astronomical-places : 10 ^ 20 < length (places 0 wide)
 astronomical-places = le-trans entries-beyond (entries-inside wide)
 
-pub astronomical-refused : accept (encode wide) ≡ refused too-many-places 0
+pub astronomical-refused : accept (encode wide) ≡ refused 11 0
 unfolding accept encode
 astronomical-refused = refl

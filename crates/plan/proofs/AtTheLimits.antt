@@ -4,8 +4,6 @@ use Prim.Native.Nat.{ℕ, zero, suc}
 use mathlib.Core.Path.{_≡_, refl}
 use mathlib.Core.List.{[], _∷_, _++_}
 use lib.ListN.{length}
-use Rattle.field.specs.Limits.{plan-limit, depth-limit, action-limit}
-use Rattle.field.specs.Refusals.{plan-too-long, too-deep, too-many-actions}
 use Rattle.field.specs.Answer.{good, refused}
 use Rattle.algebra.specs.Expr.{Expr, action, sequence, scope, actions}
 use Rattle.plan.specs.Reading.{read-plan}
@@ -25,7 +23,7 @@ below over (suc k) E = over (below over k E)
 abbrev most-actions : Expr
 most-actions = tree sequence 8 (action 1)
 
-pub most-actions-count : actions most-actions ≡ action-limit
+pub most-actions-count : actions most-actions ≡ 256
 unfolding actions
 most-actions-count = refl
 
@@ -34,7 +32,7 @@ unfolding read-plan encode
 most-actions-read = refl
 
 -- the 257th stands behind 3 bytes of header and the 1,789 of the others
-pub one-more-action-refused : read-plan (encode (sequence most-actions (action 1))) ≡ refused too-many-actions 1792
+pub one-more-action-refused : read-plan (encode (sequence most-actions (action 1))) ≡ refused 7 1792
 unfolding read-plan encode
 one-more-action-refused = refl
 
@@ -42,7 +40,7 @@ one-more-action-refused = refl
 abbrev deepest : Expr
 deepest = below (sequence (action 1)) 31 (action 1)
 
-pub deepest-depth : depth deepest ≡ depth-limit
+pub deepest-depth : depth deepest ≡ 32
 unfolding depth
 deepest-depth = refl
 
@@ -51,7 +49,7 @@ unfolding read-plan encode
 deepest-read = refl
 
 -- the first field at depth 33 stands behind 32 headers of 3 bytes and 31 actions of 4
-pub one-deeper-refused : read-plan (encode (sequence (action 1) deepest)) ≡ refused too-deep 220
+pub one-deeper-refused : read-plan (encode (sequence (action 1) deepest)) ≡ refused 5 220
 unfolding read-plan encode
 one-deeper-refused = refl
 
@@ -59,7 +57,7 @@ one-deeper-refused = refl
 abbrev longest : Expr
 longest = sequence (tree sequence 6 (below (scope 1) 14 (action 1))) (below (scope 1) 15 (action 1))
 
-pub longest-length : length (encode longest) ≡ plan-limit
+pub longest-length : length (encode longest) ≡ 4096
 unfolding encode
 longest-length = refl
 
@@ -67,6 +65,6 @@ pub longest-read : read-plan (encode longest) ≡ good longest
 unfolding read-plan encode
 longest-read = refl
 
-pub one-more-byte-refused : read-plan (encode longest ++ (0 ∷ [])) ≡ refused plan-too-long 0
+pub one-more-byte-refused : read-plan (encode longest ++ (0 ∷ [])) ≡ refused 1 0
 unfolding read-plan encode
 one-more-byte-refused = refl

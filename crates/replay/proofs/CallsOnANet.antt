@@ -11,7 +11,6 @@ use lib.Seq.{take-at, drop-drop}
 use lib.Dec.{T, leb, le→leb}
 use contract.Lifetimes.{Lfts}
 use borrow.Fn.Kinds.{Dens}
-use Rattle.field.specs.Refusals.{table-too-short, no-transition, input-empty, input-shared}
 use Rattle.field.specs.Answer.{Answer, good, refused, _>>=_, check}
 use Rattle.field.specs.Lists.{all}
 use Rattle.field.proofs.Tests.{T-true}
@@ -82,12 +81,12 @@ module _ (plan : List ℕ) (E : Expr) (yes-plan : accept plan ≡ good E) (R : L
       (rw marking-passes (rw (front, lent-tables-are-the-net plan E yes-plan kinds rows arcs) refl))
 
   -- Nor 36.
-  pub refused-on-the-net : (S : List Item) (n c : ℕ) → fire-items (net-of E .transitions) m S ≡ refused n c → (n ≡ no-transition) ⊎ ((n ≡ input-empty) ⊎ (n ≡ input-shared))
+  pub refused-on-the-net : (S : List Item) (n c : ℕ) → fire-items (net-of E .transitions) m S ≡ refused n c → (n ≡ 31) ⊎ ((n ≡ 32) ⊎ (n ≡ 33))
   refused-on-the-net S n c e = next-refused E exclusive scopes R S m n c reached e .number
 
   -- Of the enabled list only 14 is left.
   pub enabled-on-the-net : (out : List ℕ) → list-enabled tables (m ++ rest) out
-      ≡ (check (leb (length (enabled-from 0 m (net-of E .transitions))) (length out)) table-too-short 0 >>= (λ u. good (enabled-from 0 m (net-of E .transitions))))
+      ≡ (check (leb (length (enabled-from 0 m (net-of E .transitions))) (length out)) 14 0 >>= (λ u. good (enabled-from 0 m (net-of E .transitions))))
   unfolding list-enabled
   enabled-on-the-net out =
       rw (lent-tables-are-a-net plan E yes-plan kinds rows arcs)

@@ -13,8 +13,6 @@ use lib.ListN.{length, drop}
 use lib.Dec.{leb, le→leb}
 use contract.Lifetimes.{Lfts}
 use borrow.Fn.Kinds.{Dens}
-use Rattle.field.specs.Limits.{record-limit}
-use Rattle.field.specs.Refusals.{two-tokens, no-transition, input-empty, input-shared}
 use Rattle.field.specs.Answer.{good, _>>=_}
 use Rattle.field.proofs.Tests.{T-true}
 use Rattle.field.proofs.Answers.{bind-good}
@@ -64,7 +62,7 @@ pub record Point (E : Expr) (Ss : List (List Item)) (m : List ℕ) : Type 0 wher
 pub data NotDerived (E : Expr) (Ss : List (List Item)) (n c : ℕ) : Recorded → Type 0 where
   no-step-there : NotDerived E Ss n c (no-step n c)
   not-derived : {S : List Item} {Q : Recorded} → ((D D′ : Dynamic E) (S′ : List Item) → Derived E Ss D → Bag S′ S → Step 0 E D S′ D′ → ⊥)
-      → (n ≡ no-transition) ⊎ ((n ≡ input-empty) ⊎ (n ≡ input-shared)) → NotDerived E Ss n c (step S Q)
+      → (n ≡ 31) ⊎ ((n ≡ 32) ⊎ (n ≡ 33)) → NotDerived E Ss n c (step S Q)
 
 -- Replay of the record R of the plan E, with the buffer that was lent.
 pub data Demand3 (E : Expr) (R : Recorded) (lent : List ℕ) (r : Replayed) : Type 0 where
@@ -73,7 +71,7 @@ pub data Demand3 (E : Expr) (R : Recorded) (lent : List ℕ) (r : Replayed) : Ty
   refuses : (n c k : ℕ) (Ss : List (List Item)) (next : Recorded) (m : List ℕ) → After k R Ss next → Point E Ss m → NotDerived E Ss n c next
       → r .buffer ≡ m ++ drop (place-count (net-of E)) lent → r .verdict ≡ refusal n c k → Demand3 E R lent r
 
-module _ (plan record-bytes buffer : List ℕ) (E : Expr) (yes-plan : accept plan ≡ good E) (short : length record-bytes ≤ record-limit) (room : place-count (net-of E) ≤ length buffer) where
+module _ (plan record-bytes buffer : List ℕ) (E : Expr) (yes-plan : accept plan ≡ good E) (short : length record-bytes ≤ 16384) (room : place-count (net-of E) ≤ length buffer) where
   exclusive : LoopsExclusive E
   exclusive = loops-exclusive E (accepted plan E yes-plan .loops)
 
@@ -88,7 +86,7 @@ module _ (plan record-bytes buffer : List ℕ) (E : Expr) (yes-plan : accept pla
 
   started-well : start plan record-bytes buffer ≡ good (record { net = net-of E; recorded = recorded })
   unfolding start recorded
-  started-well = rw yes-plan (rw (T-true (leb (place-count (net-of E)) (length buffer)) (le→leb (place-count (net-of E)) (length buffer) room)) (rw (T-true (leb (length record-bytes) record-limit) (le→leb (length record-bytes) record-limit short)) refl))
+  started-well = rw yes-plan (rw (T-true (leb (place-count (net-of E)) (length buffer)) (le→leb (place-count (net-of E)) (length buffer) room)) (rw (T-true (leb (length record-bytes) 16384) (le→leb (length record-bytes) 16384 short)) refl))
 
   verdict-is : replay plan record-bytes buffer .verdict ≡ the-run .verdict
   unfolding replay the-run
@@ -179,7 +177,7 @@ each-point-before E As Bs m p =
 
 -- The same of the call `replay`: any answer and any buffer at exit that its contract, as it is made from the code's clauses, allows.
 module _ (κs : Lfts 3) (a : Dens κs call.ps) (z : Result 3 call.ps call.r κs a) (allowed : Allowed 3 call.ps call.r reads.Post κs a z) (E : Expr) (yes-plan : accept (a .0 .now) ≡ good E)
-    (short : length (a .1 .0 .now) ≤ record-limit) (room : place-count (net-of E) ≤ length (a .1 .1 .0 .now)) where
+    (short : length (a .1 .0 .now) ≤ 16384) (room : place-count (net-of E) ≤ length (a .1 .1 .0 .now)) where
   abbrev plan : List ℕ
   plan = a .0 .now
 
@@ -242,10 +240,10 @@ module _ (κs : Lfts 3) (a : Dens κs call.ps) (z : Result 3 call.ps call.r κs 
           (Ss, next, m, subst (λ j. After j (read-steps 0 0 record-bytes) Ss next) z a, p, subst (λ j. NotDerived E Ss j c next) x (subst (λ j. NotDerived E Ss n′ j next) y d), b)
 
   -- "36 cannot come from replay."
-  pub call-never-36 : (c k : ℕ) → r ≡ Refused two-tokens c k → ⊥
-  call-never-36 c k e = let q = call-refused two-tokens c k e in go (q .1) (after-form (q .3) (steps-form 0 0 record-bytes)) (q .5)
+  pub call-never-36 : (c k : ℕ) → r ≡ Refused 36 c k → ⊥
+  call-never-36 c k e = let q = call-refused 36 c k e in go (q .1) (after-form (q .3) (steps-form 0 0 record-bytes)) (q .5)
     where
-      go : {Ss : List (List Item)} (next : Recorded) → FormsIn next → NotDerived E Ss two-tokens c next → ⊥
+      go : {Ss : List (List Item)} (next : Recorded) → FormsIn next → NotDerived E Ss 36 c next → ⊥
       go _ h no-step-there = omega arith
       go _ h (not-derived f (inl e)) = omega arith
       go _ h (not-derived f (inr (inl e))) = omega arith

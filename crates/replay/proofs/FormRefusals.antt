@@ -14,7 +14,7 @@ use Rattle.form.specs.Form.{check-header, one-tag, two-tag, item-tag, action-co
 use Rattle.replay.specs.Recorded.{After, now, later}
 
 abbrev pub FormNumber : ℕ → Type 0
-FormNumber n = (record-field-cut ≤ n) × (n ≤ not-rising)
+FormNumber n = (21 ≤ n) × (n ≤ 24)
 
 -- A refusal, if there is one, is one of form.
 abbrev ByForm : {A : Type 0} → Answer A → Type 0
