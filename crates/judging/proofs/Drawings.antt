@@ -43,7 +43,8 @@ use Rattle.arcs.proofs.Transitions.{item-of-one, item-of-two}
 use Rattle.arcs.proofs.Sizes.{counts-here}
 use Rattle.arcs.proofs.AskedMet.{table-length, counted-in-front}
 use Rattle.spread.specs.inner.Spread.{Of, Told}
-use Rattle.tables.specs.inner.Rows.{listed-from, told-arcs, Whole}
+use Rattle.sides.specs.inner.Sides.{told-arcs}
+use Rattle.tables.specs.inner.Rows.{listed-from, Whole}
 use Rattle.tables.proofs.Counted.{arcs-told}
 use Rattle.boxes.specs.inner.ArcCounts.{listed-arcs}
 use Rattle.judging.specs.inner.Judged.{check-places, check-transitions, check-arcs, judge, judged}

@@ -14,7 +14,7 @@ use Rattle.field.proofs.Tests.{T-true}
 use Rattle.field.proofs.Alls.{all-join, all-replicate}
 use Rattle.algebra.specs.Net.{Net, place-count}
 use Rattle.algebra.specs.Marking.{entry-marking}
-use Rattle.tables.proofs.Runs.{sets-both}
+use Rattle.sides.proofs.Runs.{sets-both}
 
 -- Two runs of stores over a whole list leave nothing of it.
 pub entries-marked : (l : List ℕ) (n : ℕ) → n ≤ length l → sets (sets l 0 (replicate n 1)) n (replicate (length l - n) 0) ≡ replicate n 1 ++ replicate (length l - n) 0

@@ -19,7 +19,9 @@ use Rattle.arcs.specs.inner.Moves.{passes}
 use Rattle.arcs.specs.declared.sides.Side.{Side}
 use Rattle.arcs.specs.declared.sides.Side.the-variants.{Inputs, Outputs}
 use Rattle.arcs.proofs.Transitions.{numbers-few}
-use Rattle.tables.specs.inner.Rows.{item-at, listed-at, listed-from, told-count, told-arcs, item-places, Below, Drafted, Whole}
+use Rattle.sides.specs.inner.Sides.{told-count, told-arcs, item-places, Below, Drafted}
+use Rattle.sides.proofs.Told.{told-one}
+use Rattle.tables.specs.inner.Rows.{item-at, listed-at, listed-from, Whole}
 
 -- The arcs of an item are those of its two sides.
 pub both-sides : (index : List ℕ) (item : Item) → item-arcs (told-arcs index) item ≡ item-arcs (told-count index Inputs) item + item-arcs (told-count index Outputs) item
@@ -73,9 +75,6 @@ module _ {w : ℕ → ℕ} {list : List ℕ} {t many at : ℕ} (c : Counts w lis
 
 -- ---- what an expression's tables tell
 module _ {lists index : List ℕ} {E : Expr} (d : Drafted lists index E) where
-  pub told-one : (side : Side) (i : ℕ) → i < actions E → told-count index side i ≡ length (item-places E side (one i))
-  told-one side i h = d .told i h .counted side
-
   -- ---- an item that the expression has
   module _ (x : Labelled) (m : List·Memᴰ x (transitions 0 E)) where
     pair-length : (side : Side) (i j : ℕ) → x .item ≡ two i j → length (item-places E side (two i j)) ≡ length (item-places E side (one i)) + length (item-places E side (one j))
@@ -93,8 +92,8 @@ module _ {lists index : List ℕ} {E : Expr} (d : Drafted lists index E) where
     item-told side = go (x .item) refl its-actions
       where
         go : (t : Item) → x .item ≡ t → Below (actions E) t → item-arcs (told-count index side) t ≡ length (item-places E side t)
-        go (one i) e r = told-one side i r
-        go (two i j) e r = omega (arith, told-one side i (r .0), told-one side j (r .1), pair-length side i j e)
+        go (one i) e r = told-one d side i r
+        go (two i j) e r = omega (arith, told-one d side i (r .0), told-one d side j (r .1), pair-length side i j e)
 
     pub item-few : (side : Side) → item-arcs (told-count index side) (x .item) ≤ 2048
     item-few side = omega (arith, item-told side, numbers-few (by-item (passes side) (x .item)) (places 0 E), d .few)
@@ -103,8 +102,8 @@ module _ {lists index : List ℕ} {E : Expr} (d : Drafted lists index E) where
     action-by-action = go (x .item) its-actions
       where
         go : (t : Item) → Below (actions E) t → item-arcs (told-arcs index) t ≡ item-arcs (action-arcs E) t
-        go (one i) r = omega (arith, told-one Inputs i r, told-one Outputs i r)
-        go (two i j) r = omega (arith, told-one Inputs i (r .0), told-one Outputs i (r .0), told-one Inputs j (r .1), told-one Outputs j (r .1))
+        go (one i) r = omega (arith, told-one d Inputs i r, told-one d Outputs i r)
+        go (two i j) r = omega (arith, told-one d Inputs i (r .0), told-one d Outputs i (r .0), told-one d Inputs j (r .1), told-one d Outputs j (r .1))
 
 pub arcs-told : {lists index list : List ℕ} {many : ℕ} (E : Expr) → Whole lists index list many E → listed-arcs (told-arcs index) (listed-from list 0 many) ≡ length (arcs-of (net-of E))
 arcs-told {index = index} E w =

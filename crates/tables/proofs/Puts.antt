@@ -18,18 +18,13 @@ use Rattle.algebra.specs.Arcs.{transition-of, net-of}
 use Rattle.net.specs.Tables.{none, second, item-of, rows-from, arcs-from, rows-of, arcs-of}
 use Rattle.boxes.specs.inner.ArcCounts.{item-arcs}
 use Rattle.arcs.specs.declared.sides.Side.the-variants.{Inputs, Outputs}
-use Rattle.tables.specs.inner.Rows.{item-at, listed-at, listed-from, told-count, told-arcs, Drafted, Whole, Asked, PlacedBoth, Room, Put}
+use Rattle.sides.specs.inner.Sides.{told-count, told-arcs, Drafted, PlacedBoth}
+use Rattle.sides.proofs.Told.{its-numbers}
+use Rattle.tables.specs.inner.Rows.{item-at, listed-at, listed-from, Whole, Asked, Room, Put}
 use Rattle.tables.proofs.Counted.{both-sides, side-told, its-actions, item-told, item-few, arcs-told, listed-next, listed-none, Counts, none-counted, one-counted, next-counted}
-use Rattle.tables.proofs.Runs.{sets-both}
+use Rattle.sides.proofs.Runs.{sets-both}
 
 -- ---- one transition
-pub its-numbers : (i j : ℕ) → (first (item-of i j) ≡ i) × (second (item-of i j) ≡ j)
-its-numbers i j = go (eqb j none) refl
-  where
-    go : (b : Bool) → eqb j none ≡ b → (first (item-of i j) ≡ i) × (second (item-of i j) ≡ j)
-    go true e = rw e (refl, sym (eqb-true j none e))
-    go false e = rw e (refl, refl)
-
 -- A part of the arcs that was written whole.
 part-set : (arcs l : List ℕ) (at n : ℕ) → length l ≡ n → at + n ≤ length arcs → take at arcs ++ (l ++ drop n (drop at arcs)) ≡ sets arcs at l
 part-set arcs l at n e h = ap (λ r. take at arcs ++ (l ++ r)) (drop-drop n at arcs ∙ ap (λ k. drop (at + k) arcs) (sym e)) ∙ sym (append-assoc (take at arcs) l (drop (at + length l) arcs)) ∙ sym (sets-eq l arcs at (omega arith))

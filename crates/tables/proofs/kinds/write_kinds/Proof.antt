@@ -4,7 +4,7 @@ use Prim.Native.Nat.{_+_}
 use mathlib.Core.Path.{_∙_, ap}
 use lib.ListN.{replicate}
 use lib.Seq.{sets}
-use Rattle.tables.proofs.Runs.{three-runs}
+use Rattle.sides.proofs.Runs.{three-runs}
 use borrow.Author.Needs.{needs}
 use Rattle.tables.proofs.kinds.write_kinds.Statement.{statement}
 use Rattle.tables.proofs.kinds.write_kinds.Tie as tie

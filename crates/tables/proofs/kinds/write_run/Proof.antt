@@ -5,7 +5,7 @@ use native.Mathlib.Omega.{arith}
 use mathlib.Core.Path.{_≡_, refl, sym, _∙_, ap}
 use lib.ListN.{length, replicate, length-set}
 use lib.Seq.{sets}
-use Rattle.tables.proofs.Runs.{one-stored}
+use Rattle.sides.proofs.Runs.{one-stored}
 use Rattle.tables.proofs.kinds.write_run.Statement.{statement}
 use Rattle.tables.proofs.kinds.write_run.Tie as tie
 

@@ -4,7 +4,7 @@ use Prim.Native.Nat.{_+_, _*_, _-_, _≤_}
 use native.Mathlib.Omega.{arith}
 use mathlib.Core.Path.{ap}
 use borrow.Author.Needs.{needs}
-use Rattle.tables.specs.inner.Rows.{told-arcs}
+use Rattle.sides.specs.inner.Sides.{told-arcs}
 use Rattle.tables.proofs.Counted.{Counts, none-counted, next-counted, all-counted}
 use Rattle.tables.proofs.rows.count_arcs.Statement.{statement}
 use Rattle.tables.proofs.rows.count_arcs.Tie as tie

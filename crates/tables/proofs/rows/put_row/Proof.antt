@@ -4,7 +4,7 @@ use Prim.Native.Nat.{_*_}
 use native.Mathlib.Omega.{arith}
 use lib.ListN.{length-set}
 use borrow.Author.Needs.{needs}
-use Rattle.tables.proofs.Runs.{six-stored}
+use Rattle.sides.proofs.Runs.{six-stored}
 use Rattle.tables.proofs.rows.put_row.Statement.{statement}
 use Rattle.tables.proofs.rows.put_row.Tie as tie
 

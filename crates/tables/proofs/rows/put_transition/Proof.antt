@@ -8,15 +8,16 @@ use lib.Seq.{length-take-le}
 use borrow.Author.Needs.{needs}
 use Rattle.boxes.specs.inner.ArcCounts.{item-arcs}
 use Rattle.arcs.specs.declared.sides.Side.the-variants.{Inputs, Outputs}
-use Rattle.tables.specs.inner.Rows.{item-at, told-arcs}
+use Rattle.sides.specs.inner.Sides.{told-arcs}
+use Rattle.tables.specs.inner.Rows.{item-at}
 use Rattle.tables.proofs.Counted.{side-told, sides-told}
 use Rattle.tables.proofs.Puts.{transition-put}
 use Rattle.tables.proofs.rows.put_transition.Statement.{statement}
 use Rattle.tables.proofs.rows.put_transition.Tie as tie
 use Rattle.tables.proofs.rows.put_transition.Reads as reads
 use Rattle.tables.proofs.rows.put_transition.Lts as lts
-use Rattle.tables.proofs.rows.count_item.Reads as count-item-reads
-use Rattle.tables.proofs.rows.put_arcs.Reads as put-arcs-reads
+use Rattle.sides.proofs.count_item.Reads as count-item-reads
+use Rattle.sides.proofs.put_arcs.Reads as put-arcs-reads
 use Rattle.tables.proofs.rows.put_row.Reads as put-row-reads
 use Rattle.plan.proofs.exclusive.wide.Reads as wide-reads
 
