@@ -8,7 +8,7 @@ use Rattle.field.specs.Answer.{good, refused}
 use Rattle.algebra.specs.Expr.{Expr, action, sequence, parallel, loop}
 use Rattle.plan.specs.Bytes.{encode}
 use Rattle.boxes.specs.Compile.{Lent, compile}
-use Rattle.step.specs.Enabled.{enabling, stuck}
+use Rattle.enabling.specs.Enabled.{enabling, stuck}
 use Rattle.run.specs.Run.{finished, unfinished, refusal}
 use Rattle.exports.specs.Told.{told, compile-tells, fire-tells, enabled-tells, replay-tells}
 

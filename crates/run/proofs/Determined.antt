@@ -16,8 +16,8 @@ use Rattle.field.proofs.OneResult.{One, Allowed, Determined}
 use Rattle.algebra.specs.Net.{Net, Transition}
 use Rattle.algebra.specs.Marking.{exits-marked}
 use Rattle.algebra.specs.Firing.{fire-items}
-use Rattle.step.specs.Form.{Recorded, ends, step, no-step, read-steps}
-use Rattle.step.specs.inner.Naming.{transitions-within}
+use Rattle.form.specs.Form.{Recorded, ends, step, no-step, read-steps}
+use Rattle.moving.specs.inner.InOrder.{transitions-within}
 use Rattle.run.specs.Run.{Verdict, finished, unfinished, refusal, Run, go-on, run}
 use Rattle.run.specs.Says.{ran-says}
 use Rattle.run.specs.declared.Ran.{Ran}
