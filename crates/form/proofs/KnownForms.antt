@@ -45,7 +45,8 @@ known-lent =
     ∷ known-step (0x20 ∷ 0 ∷ 4 ∷ 0x21 ∷ 0 ∷ 1 ∷ 0 ∷ 9 ∷ []) (no 23)
     ∷ known-step (0x20 ∷ 0 ∷ 1 ∷ 0x21 ∷ 9 ∷ []) (no 23)
     ∷ known-step (0x20 ∷ 0 ∷ 4 ∷ 0x19 ∷ 0 ∷ 1 ∷ 0 ∷ 9 ∷ []) (no 23)
-    -- "for each 21": under 3 bytes left; a length beyond the step's body, before the wrong tag
+    -- "for each 21": under 3 bytes left, also in a body of one byte; a length beyond the step's body, before the wrong tag
+    ∷ known-step (0x20 ∷ 0 ∷ 1 ∷ 0x21 ∷ []) (no 21)
     ∷ known-step (0x20 ∷ 0 ∷ 6 ∷ 0x21 ∷ 0 ∷ 1 ∷ 0 ∷ 0x21 ∷ 0 ∷ []) (no 21)
     ∷ known-step (0x20 ∷ 0 ∷ 4 ∷ 0x19 ∷ 0 ∷ 2 ∷ 0 ∷ []) (no 21)
     -- "22": a wrong tag, before the wrong length; a step's tag is no item's
@@ -100,6 +101,9 @@ known-records =
     ∷ read (behind (0x20 ∷ 0 ∷ 8 ∷ 0x21 ∷ 0 ∷ 1 ∷ 2 ∷ 0x21 ∷ 0 ∷ 1 ∷ 2 ∷ [])) (refused-behind 24)
     -- bytes behind a step are the next step: {0}, and one byte
     ∷ read (behind (9 ∷ [])) (refused-behind 21)
+    -- an item of one byte; the offset of a third step
+    ∷ read (behind (0x20 ∷ 0 ∷ 1 ∷ 0x21 ∷ [])) (refused-behind 21)
+    ∷ read (behind (behind (0x19 ∷ 0 ∷ 0 ∷ []))) (good (step (one 0 ∷ []) (step (one 0 ∷ []) (no-step 22 14))))
     ∷ []
 
 pub record KnownForms : Type 0 where

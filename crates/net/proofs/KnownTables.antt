@@ -101,6 +101,7 @@ no-nets =
     ∷ lent (1 ∷ 3 ∷ 2 ∷ 3 ∷ []) rows arcs 4 2 4
     ∷ lent (1 ∷ 2 ∷ 1 ∷ 3 ∷ []) rows arcs 4 2 4
     ∷ lent (0 ∷ 1 ∷ 3 ∷ []) rows arcs 3 2 4
+    ∷ lent (1 ∷ 0 ∷ 3 ∷ []) rows arcs 3 2 4
     ∷ lent (1 ∷ 3 ∷ 4 ∷ []) rows arcs 3 2 4
     -- "with a 1 and a 3"
     ∷ lent (2 ∷ 2 ∷ 3 ∷ []) rows arcs 3 2 4
@@ -136,6 +137,7 @@ no-nets =
     -- "an action above 255 (65,535 as second aside)"
     ∷ single 1 256 65535
     ∷ single 1 65535 65535
+    ∷ single 0 256 0
     ∷ single 0 0 256
     ∷ single 0 0 65534
     -- "or two transitions of the same action pair": single ones, joined ones, two with one between them
