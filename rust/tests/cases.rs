@@ -80,7 +80,28 @@ fn limits(lines: &mut Lines) {
         ("20,200 arcs", arcs.clone()),
         ("20,200 arcs, 20,000 under a scope", Expr::scope(1, arcs)),
     ];
-    cases.iter().for_each(|(title, expr)| lines.compiled(title, &expr.encode()));
+    for (title, expr) in cases {
+        lines.compiled(title, &expr.encode());
+        if title == "32 joined with 32" {
+            let net = net_of(&expr.encode()).unwrap();
+            lines.listed("32 joined with 32, all marked", &net, &[1; 128], 1_024);
+        }
+    }
+    // 112·(120 + 8) + 120·(1 + 8) + 8·(120 + 1) arcs, and
+    // 134·(97 + 10) + 97·(1 + 10) + 10·(97 + 1).
+    let arcs =
+        |m, n, k| alt(wide(Expr::choice, 1, m), seq(wide_par(2, n), wide_par(3, k))).encode();
+    lines.compiled("16,384 arcs", &arcs(112, 120, 8));
+    let over = arcs(134, 97, 10);
+    lines.compiled_into("16,385 arcs, room for all", &over, [1_077, 1_446, 16_385]);
+    lines.compiled_into("16,385 arcs, room for none", &over, [0; 3]);
+    let repeated = |label| Expr::repeat(act(label), act(label), act(label));
+    let plan = Expr::scope(1, par(repeated(1), repeated(129))).encode();
+    let (first, body, last) = ([Item::two(0, 3)], [Item::two(1, 4)], [Item::two(2, 5)]);
+    let mut steps: Vec<&[Item]> = vec![&body; 2_048];
+    steps[0] = &first;
+    steps[2_047] = &last;
+    lines.replayed("record of 16,384 bytes", &plan, &written(&steps), 6);
 }
 
 fn reading(lines: &mut Lines) {
