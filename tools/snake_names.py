@@ -14,7 +14,11 @@ import re
 import sys
 
 TYPES = {"Counts-of": "CountsOf"}
-SIGNATURE = re.compile(r"^\s*(?:(?:abbrev|unfoldable|pub|data|record)\s+)*([A-Za-z][^\s(){}\[\],;.:]*)\s*:(?=\s)", re.M)
+# Variables of definitions in specs/.
+VARIABLES = {"run-record", "exits-from"}
+NAME = r"[A-Za-z][^\s(){}\[\],;.:]*"
+SIGNATURE = re.compile(rf"^\s*(?:(?:abbrev|unfoldable|pub|data|record)\s+)*({NAME}(?: {NAME})*)\s*:(?=\s)", re.M)
+ALIAS = re.compile(r"^use \S+ as (\S+)$", re.M)
 IMPORT = re.compile(r"use ([^\s{}]+)\.\{([^}]*)\}")
 TOKEN = re.compile(r"[^\s(){}\[\];,.«»]+")
 
@@ -36,7 +40,10 @@ def own_names():
     own, all_names = set(), set()
     for path in files(".antt"):
         with open(path, encoding="utf-8") as f:
-            names = set(SIGNATURE.findall(f.read()))
+            text = f.read()
+        names = {n for line in SIGNATURE.findall(text) for n in line.split()}
+        if path.split(os.sep)[2] == "specs":
+            names |= set(ALIAS.findall(text)) | VARIABLES
         all_names |= names
         if not of_a_function(path):
             own |= names

@@ -12,7 +12,7 @@ use lib.ListN.{length}
 use lib.Dec.{T, eqb}
 use Rattle.algebra.specs.Expr.{Expr, action, sequence, choice, parallel, loop, scope, actions}
 use Rattle.algebra.specs.Item.{Item, one, two, first}
-use Rattle.algebra.specs.Places.{Place, sequence_place, choice-entry, choice-exit, pair, loop_of, product, entries, exits, internals, places}
+use Rattle.algebra.specs.Places.{Place, sequence_place, choice_entry, choice_exit, pair, loop_of, product, entries, exits, internals, places}
 use Rattle.algebra.specs.Transitions.{Labelled, labelled, kept, joined, transitions}
 use Rattle.algebra.specs.Arcs.{consumes, produces, by_item, transition_of}
 use Rattle.field.proofs.Tests.{or_left, or_right, eqb_of}
@@ -97,7 +97,7 @@ consumed n (sequence E F) i lo hi =
     (operand n i (actions E) (actions F) lo hi (consumed n E i) (consumed m F i))
 consumed n (choice E F) i lo hi =
     let m = n + actions E in
-    of_choice (consumes i) (entries n E) (internals n E) (entries m F) (internals m F) choice-entry (λ x y. refl) (every_box_has_an_entry n E) (every_box_has_an_entry m F)
+    of_choice (consumes i) (entries n E) (internals n E) (entries m F) (internals m F) choice_entry (λ x y. refl) (every_box_has_an_entry n E) (every_box_has_an_entry m F)
     (operand n i (actions E) (actions F) lo hi (consumed n E i) (consumed m F i))
 consumed n (parallel E F) i lo hi =
     let m = n + actions E in
@@ -127,7 +127,7 @@ produced n (sequence E F) i lo hi =
     (operand n i (actions E) (actions F) lo hi (produced n E i) (produced m F i))
 produced n (choice E F) i lo hi =
     let m = n + actions E in
-    of_choice (produces i) (exits n E) (internals n E) (exits m F) (internals m F) choice-exit (λ x y. refl) (every_box_has_an_exit n E) (every_box_has_an_exit m F)
+    of_choice (produces i) (exits n E) (internals n E) (exits m F) (internals m F) choice_exit (λ x y. refl) (every_box_has_an_exit n E) (every_box_has_an_exit m F)
     (operand n i (actions E) (actions F) lo hi (produced n E i) (produced m F i))
 produced n (parallel E F) i lo hi =
     let m = n + actions E in

@@ -5,22 +5,22 @@ use native.Mathlib.Nat.{eq-zero-or-pos}
 use native.Mathlib.Omega.{arith}
 use mathlib.Core.Path.{◌≡◌, ◌∙◌, ap}
 use mathlib.Core.Logic.{⊎_elim}
-use Rattle.algebra.specs.Places.{Place, entry, exit, sequence_place, choice-entry, choice-exit, loop_place}
+use Rattle.algebra.specs.Places.{Place, entry, exit, sequence_place, choice_entry, choice_exit, loop_place}
 
 unfoldable pub taken : (ℕ → ℕ) → Place → ℕ
 taken A (entry i) = A i
 taken A (exit i) = 0
 taken A (sequence_place x e) = taken A e
-taken A (choice-entry e f) = taken A e + taken A f
-taken A (choice-exit x y) = 0
+taken A (choice_entry e f) = taken A e + taken A f
+taken A (choice_exit x y) = 0
 taken A (loop_place x y e g) = taken A e + taken A g
 
 unfoldable pub given : (ℕ → ℕ) → Place → ℕ
 given A (entry i) = 0
 given A (exit i) = A i
 given A (sequence_place x e) = given A x
-given A (choice-entry e f) = 0
-given A (choice-exit x y) = given A x + given A y
+given A (choice_entry e f) = 0
+given A (choice_exit x y) = given A x + given A y
 given A (loop_place x y e g) = given A x + given A y
 
 -- no action of so many from n on is in the step

@@ -10,7 +10,7 @@ use Rattle.algebra.specs.Expr.{Expr, actions}
 use Rattle.algebra.specs.Item.{Item, one, two}
 use Rattle.algebra.specs.Exclusive.{LoopsExclusive}
 use Rattle.algebra.specs.Scopes.{ScopesNamed}
-use Rattle.algebra.specs.Places.{Place, entry, exit, sequence_place, choice-entry, choice-exit, loop_place}
+use Rattle.algebra.specs.Places.{Place, entry, exit, sequence_place, choice_entry, choice_exit, loop_place}
 use Rattle.algebra.specs.Arcs.{consumes, produces, by_item}
 use Rattle.algebra.specs.Dynamic.{Dynamic}
 use Rattle.algebra.proofs.Codes.{El}
@@ -45,8 +45,8 @@ unfolding taken
 taken_sum A B (entry i) = refl
 taken_sum A B (exit i) = refl
 taken_sum A B (sequence_place x e) = taken_sum A B e
-taken_sum A B (choice-entry e f) = omega (arith, taken_sum A B e, taken_sum A B f)
-taken_sum A B (choice-exit x y) = refl
+taken_sum A B (choice_entry e f) = omega (arith, taken_sum A B e, taken_sum A B f)
+taken_sum A B (choice_exit x y) = refl
 taken_sum A B (loop_place x y e g) = omega (arith, taken_sum A B e, taken_sum A B g)
 
 pub given_sum : (A B : ℕ → ℕ) (p : Place) → given (λ k. A k + B k) p ≡ given A p + given B p
@@ -54,8 +54,8 @@ unfolding given
 given_sum A B (entry i) = refl
 given_sum A B (exit i) = refl
 given_sum A B (sequence_place x e) = given_sum A B x
-given_sum A B (choice-entry e f) = refl
-given_sum A B (choice-exit x y) = omega (arith, given_sum A B x, given_sum A B y)
+given_sum A B (choice_entry e f) = refl
+given_sum A B (choice_exit x y) = omega (arith, given_sum A B x, given_sum A B y)
 given_sum A B (loop_place x y e g) = omega (arith, given_sum A B x, given_sum A B y)
 
 -- ---- an arc or none
@@ -83,8 +83,8 @@ unfolding consumes taken
 consumes_taken i (entry j) h = own_action i j
 consumes_taken i (exit j) h = refl
 consumes_taken i (sequence_place x e) h = consumes_taken i e h
-consumes_taken i (choice-entry e f) h = bit_or (consumes i e) (consumes i f) _ _ (consumes_taken i e (omega arith)) (consumes_taken i f (omega arith)) h
-consumes_taken i (choice-exit x y) h = refl
+consumes_taken i (choice_entry e f) h = bit_or (consumes i e) (consumes i f) _ _ (consumes_taken i e (omega arith)) (consumes_taken i f (omega arith)) h
+consumes_taken i (choice_exit x y) h = refl
 consumes_taken i (loop_place x y e g) h = bit_or (consumes i e) (consumes i g) _ _ (consumes_taken i e (omega arith)) (consumes_taken i g (omega arith)) h
 
 pub produces_given : (i : ℕ) (p : Place) → given (only i) p ≤ 1 → bit (produces i p) ≡ given (only i) p
@@ -92,8 +92,8 @@ unfolding produces given
 produces_given i (entry j) h = refl
 produces_given i (exit j) h = own_action i j
 produces_given i (sequence_place x e) h = produces_given i x h
-produces_given i (choice-entry e f) h = refl
-produces_given i (choice-exit x y) h = bit_or (produces i x) (produces i y) _ _ (produces_given i x (omega arith)) (produces_given i y (omega arith)) h
+produces_given i (choice_entry e f) h = refl
+produces_given i (choice_exit x y) h = bit_or (produces i x) (produces i y) _ _ (produces_given i x (omega arith)) (produces_given i y (omega arith)) h
 produces_given i (loop_place x y e g) h = bit_or (produces i x) (produces i y) _ _ (produces_given i x (omega arith)) (produces_given i y (omega arith)) h
 
 -- ---- items

@@ -39,7 +39,7 @@ module _ {A : Type 0} where
       go true e m rest = here (subst T (sym e) tt) (Memᴰ.cases_cons m) rest
       go false e m rest = behind (rest m)
 
-  pub select_of_member : (ok : A → Bool) {xs : List A} {x : A} → Memᴰ x xs → T (ok x) → Memᴰ x (select ok xs)
+  pub select_of_member : (ok : A → Bool) {x : A} {xs : List A} → Memᴰ x xs → T (ok x) → Memᴰ x (select ok xs)
   unfolding select
   select_of_member ok {x} (Memᴰ.head {x = y} {xs = ys} e) t = go (ok y) (subst (λ z. T (ok z)) e t)
     where

@@ -6,14 +6,14 @@ use mathlib.Core.Logic.{◌⊎◌, inl, inr}
 use mathlib.Core.List.{List, [], ◌∷◌, ◌++◌}
 use lib.ListN.{length}
 use Rattle.algebra.specs.Expr.{Expr, action, sequence, choice, parallel, loop, scope, actions}
-use Rattle.algebra.specs.Places.{Place, entry, exit, sequence_place, choice-entry, choice-exit, loop_place, product, pair, loop_of, entries, exits, internals, places}
+use Rattle.algebra.specs.Places.{Place, entry, exit, sequence_place, choice_entry, choice_exit, loop_place, product, pair, loop_of, entries, exits, internals, places}
 use Rattle.algebra.proofs.Codes.{Code, point, void, sum, prod, El, entry_code, exit_code, internal_code, Entry, Exit, Internal}
 use Rattle.algebra.proofs.Numbering.{table, sum_table, product_table, card, table_length}
 
 unfoldable pub entry_name : (n : ℕ) (E : Expr) → Entry E → Place
 entry_name n (action l) e = entry n
 entry_name n (sequence E F) e = entry_name n E e
-entry_name n (choice E F) e = choice-entry (entry_name n E e.0) (entry_name (n + actions E) F e.1)
+entry_name n (choice E F) e = choice_entry (entry_name n E e.0) (entry_name (n + actions E) F e.1)
 entry_name n (parallel E F) (inl e) = entry_name n E e
 entry_name n (parallel E F) (inr e) = entry_name (n + actions E) F e
 entry_name n (loop E F G) e = entry_name n E e
@@ -22,7 +22,7 @@ entry_name n (scope a E) e = entry_name n E e
 unfoldable pub exit_name : (n : ℕ) (E : Expr) → Exit E → Place
 exit_name n (action l) x = exit n
 exit_name n (sequence E F) x = exit_name (n + actions E) F x
-exit_name n (choice E F) x = choice-exit (exit_name n E x.0) (exit_name (n + actions E) F x.1)
+exit_name n (choice E F) x = choice_exit (exit_name n E x.0) (exit_name (n + actions E) F x.1)
 exit_name n (parallel E F) (inl x) = exit_name n E x
 exit_name n (parallel E F) (inr x) = exit_name (n + actions E) F x
 exit_name n (loop E F G) x = exit_name (n + actions E + actions F) G x
@@ -69,7 +69,7 @@ entries_listed : (n : ℕ) (E : Expr) → Lists (entry_code E) (entry_name n E) 
 unfolding entries entry_name
 entries_listed n (action l) = point_lists (entry_name n (action l))
 entries_listed n (sequence E F) = record { same = (entries_listed n E).same }
-entries_listed n (choice E F) = product_lists choice-entry (entries_listed n E) (entries_listed (n + actions E) F)
+entries_listed n (choice E F) = product_lists choice_entry (entries_listed n E) (entries_listed (n + actions E) F)
 entries_listed n (parallel E F) = sum_lists (entry_name n (parallel E F)) (entries_listed n E) (entries_listed (n + actions E) F)
 entries_listed n (loop E F G) = record { same = (entries_listed n E).same }
 entries_listed n (scope a E) = record { same = (entries_listed n E).same }
@@ -78,7 +78,7 @@ exits_listed : (n : ℕ) (E : Expr) → Lists (exit_code E) (exit_name n E) (exi
 unfolding exits exit_name
 exits_listed n (action l) = point_lists (exit_name n (action l))
 exits_listed n (sequence E F) = record { same = (exits_listed (n + actions E) F).same }
-exits_listed n (choice E F) = product_lists choice-exit (exits_listed n E) (exits_listed (n + actions E) F)
+exits_listed n (choice E F) = product_lists choice_exit (exits_listed n E) (exits_listed (n + actions E) F)
 exits_listed n (parallel E F) = sum_lists (exit_name n (parallel E F)) (exits_listed n E) (exits_listed (n + actions E) F)
 exits_listed n (loop E F G) = record { same = (exits_listed (n + actions E + actions F) G).same }
 exits_listed n (scope a E) = record { same = (exits_listed n E).same }

@@ -3,7 +3,7 @@ use Rattle.std.specs.Prelude.{ℕ, suc, List, [], ◌∷◌, map, Bool, true, fa
 use Rattle.algebra.specs.Expr.{Expr}
 use Rattle.algebra.specs.Item.{Item, one, two}
 use Rattle.algebra.specs.Net.{Transition, Net}
-use Rattle.algebra.specs.Places.{Place, entry, exit, sequence_place, choice-entry, choice-exit, loop_place, entries, internals, exits, places}
+use Rattle.algebra.specs.Places.{Place, entry, exit, sequence_place, choice_entry, choice_exit, loop_place, entries, internals, exits, places}
 use Rattle.algebra.specs.Transitions.{Labelled, transitions}
 
 -- "A transition consumes from each new place that has one of its old input places as the entry part":
@@ -12,8 +12,8 @@ unfoldable pub consumes : ℕ → Place → Bool
 consumes i (entry j) = eqb i j
 consumes i (exit j) = false
 consumes i (sequence_place x e) = consumes i e
-consumes i (choice-entry e f) = consumes i e || consumes i f
-consumes i (choice-exit x y) = false
+consumes i (choice_entry e f) = consumes i e || consumes i f
+consumes i (choice_exit x y) = false
 consumes i (loop_place x y e g) = consumes i e || consumes i g
 
 -- "and produces into each that has one of its old output places as the exit part"
@@ -21,8 +21,8 @@ unfoldable pub produces : ℕ → Place → Bool
 produces i (entry j) = false
 produces i (exit j) = eqb i j
 produces i (sequence_place x e) = produces i x
-produces i (choice-entry e f) = false
-produces i (choice-exit x y) = produces i x || produces i y
+produces i (choice_entry e f) = false
+produces i (choice_exit x y) = produces i x || produces i y
 produces i (loop_place x y e g) = produces i x || produces i y
 
 -- A joined one: "It has both input sets and both output sets."

@@ -8,7 +8,7 @@ pub data Place : Type 0 where
   -- an exit of E with an entry of F
   sequence_place : Place → Place → Place
   -- an entry of E with one of F, an exit of E with one of F
-  choice-entry choice-exit : Place → Place → Place
+  choice_entry choice_exit : Place → Place → Place
   -- an exit of E, an exit of F, an entry of F, an entry of G
   loop_place : Place → Place → Place → Place → Place
 
@@ -29,7 +29,7 @@ unfoldable pub entries : ℕ → Expr → List Place
 unfolding product actions
 entries n (action l) = entry n ∷ []
 entries n (sequence E F) = entries n E
-entries n (choice E F) = product choice-entry (entries n E) (entries (n + actions E) F)
+entries n (choice E F) = product choice_entry (entries n E) (entries (n + actions E) F)
 entries n (parallel E F) = entries n E ++ entries (n + actions E) F
 entries n (loop E F G) = entries n E
 entries n (scope a E) = entries n E
@@ -38,7 +38,7 @@ unfoldable pub exits : ℕ → Expr → List Place
 unfolding product actions
 exits n (action l) = exit n ∷ []
 exits n (sequence E F) = exits (n + actions E) F
-exits n (choice E F) = product choice-exit (exits n E) (exits (n + actions E) F)
+exits n (choice E F) = product choice_exit (exits n E) (exits (n + actions E) F)
 exits n (parallel E F) = exits n E ++ exits (n + actions E) F
 exits n (loop E F G) = exits (n + actions E + actions F) G
 exits n (scope a E) = exits n E

@@ -9,7 +9,7 @@ use mathlib.Core.List.{List, [], ◌∷◌, ◌++◌, map, map-append, Memᴰ}
 use lib.Dec.{eqb}
 use borrow.Author.Tests.{ne_eqb}
 use Rattle.algebra.specs.Expr.{Expr, action, sequence, choice, parallel, loop, scope, actions}
-use Rattle.algebra.specs.Places.{Place, sequence_place, choice-entry, choice-exit, product, pair, loop_of, entries, internals, exits}
+use Rattle.algebra.specs.Places.{Place, sequence_place, choice_entry, choice_exit, product, pair, loop_of, entries, internals, exits}
 use Rattle.algebra.specs.Arcs.{consumes, produces}
 use Rattle.algebra.proofs.Products.{product_member}
 use Rattle.algebra.proofs.EntriesAndExits.{entries_not_produced, exits_not_consumed}
@@ -46,13 +46,13 @@ neither b c p q = sym q ∙ false_or b c p
 module _ (i : ℕ) where
   -- A place of two entries, of two exits, of an exit and an entry.
   two_entries : (side : Side) (n m : ℕ) (E F : Expr) (x y : Place) → Memᴰ x (entries n E) → Memᴰ y (entries m F)
-      → passes side i (choice-entry x y) ≡ passes side i x || passes side i y
+      → passes side i (choice_entry x y) ≡ passes side i x || passes side i y
   unfolding consumes produces
   two_entries Inputs n m E F x y l r = refl
   two_entries Outputs n m E F x y l r = neither (produces i x) (produces i y) (entries_not_produced n E i x l) (entries_not_produced m F i y r)
 
   two_exits : (side : Side) (n m : ℕ) (E F : Expr) (x y : Place) → Memᴰ x (exits n E) → Memᴰ y (exits m F)
-      → passes side i (choice-exit x y) ≡ passes side i x || passes side i y
+      → passes side i (choice_exit x y) ≡ passes side i x || passes side i y
   unfolding consumes produces
   two_exits Inputs n m E F x y l r = neither (consumes i x) (consumes i y) (exits_not_consumed n E i x l) (exits_not_consumed m F i y r)
   two_exits Outputs n m E F x y l r = refl
@@ -103,9 +103,9 @@ module _ (side : Side) (i : ℕ) where
     pub box_of_choice : box side i n (choice E F) ≡ choice_box (box side i n E) (box side i m F)
     unfolding entries internals exits
     box_of_choice = same_box
-        (map_product choice-entry test test test (entries n E) (entries m F) (two_entries i side n m E F))
+        (map_product choice_entry test test test (entries n E) (entries m F) (two_entries i side n m E F))
         (test_append (internals n E) (internals m F) refl)
-        (map_product choice-exit test test test (exits n E) (exits m F) (two_exits i side n m E F))
+        (map_product choice_exit test test test (exits n E) (exits m F) (two_exits i side n m E F))
 
     pub box_of_parallel : box side i n (parallel E F) ≡ parallel_box (box side i n E) (box side i m F)
     unfolding entries internals exits

@@ -1,5 +1,7 @@
 // 01, "Net tables": the compile call, from the plan to the three lent tables. It judges first and then writes: each row and each arc once,
 // where it belongs.
+#![tactic(auto)]
+
 ghost use Rattle.std.specs.Prelude.{◌≡◌, ◌&&◌, ◌+◌, ◌*◌, ◌≤◌, leb, length};
 ghost use Rattle.boxes.specs.Compile as paper;
 ghost use Rattle.field.specs.Limits.{plan_limit};

@@ -1,4 +1,6 @@
 // What the programs read, and the words that they write to standard output.
+#![tactic(auto)]
+
 ghost use Rattle.std.specs.Prelude.{length};
 ghost use Rattle.console.specs.Within.{Within};
 

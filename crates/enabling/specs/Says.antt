@@ -2,9 +2,9 @@
 use Rattle.field.specs.Answer.{Answer, good, refused}
 use Rattle.enabling.specs.Enabled as enabled
 use Rattle.enabling.specs.declared.Enabling.{Enabling}
-use Rattle.enabling.specs.declared.Enabling.TheVariants as enabling-answer
+use Rattle.enabling.specs.declared.Enabling.TheVariants as enabling_answer
 
 abbrev pub enabling_says : Enabling → Answer enabled.Enabling
-enabling_says (enabling-answer.Many n) = good (enabled.enabling n)
-enabling_says enabling-answer.Stuck = good enabled.stuck
-enabling_says (enabling-answer.Refused n c) = refused n c
+enabling_says (enabling_answer.Many n) = good (enabled.enabling n)
+enabling_says enabling_answer.Stuck = good enabled.stuck
+enabling_says (enabling_answer.Refused n c) = refused n c

@@ -1,5 +1,7 @@
 // The library's calls for C and Rust. Each tells its answer as numbers at the front of a lent array: 01's number of a refusal and what it
 // carries, both 0 where there is none, and then what the call answers. A call whose array is too short answers false and touches nothing.
+#![tactic(auto)]
+
 ghost use Rattle.std.specs.Prelude.{◌≡◌, cond, ◌≤◌, length, leb};
 ghost use Rattle.net.specs.Lent.{lent};
 ghost use Rattle.boxes.specs.Compile;

@@ -1,5 +1,6 @@
 // The limits and the refusal numbers of 01, named once for all code. The proofs of the functions that use them tie each to its
 // namesake in specs/Limits.antt and specs/Refusals.antt.
+#![tactic(auto)]
 
 // 01, "Plan bytes", "Limits".
 pub const PLAN_LIMIT: usize = 4096;

@@ -14,7 +14,7 @@ use Rattle.field.specs.Field.{tag_of, length_of}
 use Rattle.algebra.specs.Item.{Item, one, two, first}
 use Rattle.net.specs.Tables.{item_of}
 use Rattle.form.specs.Form as form
-use Rattle.form.specs.Form.{ItemTag, one_tag, two-tag, ItemRead, check_header, item_tag, action_count, read_item}
+use Rattle.form.specs.Form.{ItemTag, one_tag, two_tag, ItemRead, check_header, item_tag, action_count, read_item}
 use Rattle.form.specs.inner.FormSays.{tag_count, step_head}
 
 module _ (at : ℕ) (s : List ℕ) where
@@ -34,7 +34,7 @@ module _ (at : ℕ) (s : List ℕ) where
   unfolding item_tag
   tag_none e = go (eqb (tag_of s) 0x21) (eqb (tag_of s) 0x22) e
     where
-      go : (a b : Bool) → ◌≡◌ {A = ℕ} (cond a 1 (cond b 2 0)) 0 → cond a (good one_tag) (cond b (good two-tag) (refused wrong_tag at)) ≡ refused wrong_tag at
+      go : (a b : Bool) → ◌≡◌ {A = ℕ} (cond a 1 (cond b 2 0)) 0 → cond a (good one_tag) (cond b (good two_tag) (refused wrong_tag at)) ≡ refused wrong_tag at
       go true b e = absurd (omega arith)
       go false true e = absurd (omega arith)
       go false false e = refl
@@ -43,14 +43,14 @@ module _ (at : ℕ) (s : List ℕ) where
   unfolding item_tag
   tag_some count e n = go (eqb (tag_of s) 0x21) (eqb (tag_of s) 0x22) e
     where
-      go : (a b : Bool) → count ≡ cond a 1 (cond b 2 0) → (t : ItemTag) × (cond a (good one_tag) (cond b (good two-tag) (refused wrong_tag at)) ≡ good t) × (count ≡ action_count t)
+      go : (a b : Bool) → count ≡ cond a 1 (cond b 2 0) → (t : ItemTag) × (cond a (good one_tag) (cond b (good two_tag) (refused wrong_tag at)) ≡ good t) × (count ≡ action_count t)
       go true b e = (one_tag, refl, e)
-      go false true e = (two-tag, refl, e)
+      go false true e = (two_tag, refl, e)
       go false false e = absurd (n e)
 
 first_read : (t : ItemTag) (s : List ℕ) → first (form.item_spelt t s) ≡ get_or s 3 0
 first_read one_tag s = refl
-first_read two-tag s = refl
+first_read two_tag s = refl
 
 module _ (at least : ℕ) (s : List ℕ) where
   pub item_cut : check_header at s ≡ refused record_field_cut at → refused record_field_cut at ≡ read_item at least s
@@ -85,7 +85,7 @@ module _ (at least : ℕ) (s : List ℕ) where
           go : (t : ItemTag) → count ≡ action_count t → good (record { item = form.item_spelt t s; bytes = 3 + action_count t }) ≡ read_item at least s
               → good (record { item = one (get_or s 3 0); bytes = 4 }) ≡ read_item at least s
           go one_tag c r = r
-          go two-tag c r = absurd (omega arith)
+          go two_tag c r = absurd (omega arith)
 
       pub item_two : length_of s ≡ count → least ≤ get_or s 3 0 → (count ≡ 1 → ⊥) → get_or s 4 0 < 256
           → good (record { item = item_of (get_or s 3 0) (get_or s 4 0); bytes = 5 }) ≡ read_item at least s
@@ -94,7 +94,7 @@ module _ (at least : ℕ) (s : List ℕ) where
           go : (t : ItemTag) → count ≡ action_count t → good (record { item = form.item_spelt t s; bytes = 3 + action_count t }) ≡ read_item at least s
               → good (record { item = item_of (get_or s 3 0) (get_or s 4 0); bytes = 5 }) ≡ read_item at least s
           go one_tag c r = absurd (z c)
-          go two-tag c r = rw (ne_eqb (get_or s 4 0) 65535 (λ e. absurd (omega arith))) r
+          go two_tag c r = rw (ne_eqb (get_or s 4 0) 65535 (λ e. absurd (omega arith))) r
 
 module _ (at : ℕ) (s : List ℕ) where
   pub head_cut : check_header at s ≡ refused record_field_cut at → refused record_field_cut at ≡ step_head at s

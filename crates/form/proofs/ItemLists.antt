@@ -17,7 +17,7 @@ use Rattle.net.specs.Tables.{none, item_of}
 use Rattle.form.specs.Form.{ItemRead, StepRead, read_item, read_items}
 use Rattle.form.specs.inner.FormSays.{paired, items_in, item_says, item_number, ItemFits}
 use Rattle.form.specs.declared.ItemAnswer.{ItemAnswer}
-use Rattle.form.specs.declared.ItemAnswer.TheVariants as item-answer
+use Rattle.form.specs.declared.ItemAnswer.TheVariants as item_answer
 
 pub items_passed : (at k least : ℕ) (s : List ℕ) → read_items at k least s ≡ read_items at 0 least (drop k s)
 unfolding read_items
@@ -89,14 +89,14 @@ rest_part s k = take_all (length s - k) (drop k s) (omega (arith, length-drop k 
 
 -- The answer of the code on what is left, where it is known which case it is.
 module _ (at least k : ℕ) (s : List ℕ) (r : ItemAnswer) (says : item_says at r ≡ read_item at least (take (length s - k) (drop k s))) where
-  pub says_refused : (n m : ℕ) → r ≡ item-answer.Refused n → m ≡ item_number r → refused m at ≡ read_item at least (drop k s)
+  pub says_refused : (n m : ℕ) → r ≡ item_answer.Refused n → m ≡ item_number r → refused m at ≡ read_item at least (drop k s)
   says_refused n m e f =
       ap (λ (x : ℕ). refused x at) (f ∙ ap item_number e) ∙ sym (ap (item_says at) e) ∙ says ∙ ap (read_item at least) (rest_part s k)
 
-  pub says_item : (i j bytes : ℕ) → r ≡ item-answer.Item i j bytes → good (record { item = item_of i j; bytes = bytes }) ≡ read_item at least (drop k s)
+  pub says_item : (i j bytes : ℕ) → r ≡ item_answer.Item i j bytes → good (record { item = item_of i j; bytes = bytes }) ≡ read_item at least (drop k s)
   says_item i j bytes e = sym (ap (item_says at) e) ∙ says ∙ ap (read_item at least) (rest_part s k)
 
-pub fits_item : (least k : ℕ) (s : List ℕ) (r : ItemAnswer) → ItemFits least (length (take (length s - k) (drop k s))) r → (i j bytes : ℕ) → r ≡ item-answer.Item i j bytes
+pub fits_item : (least k : ℕ) (s : List ℕ) (r : ItemAnswer) → ItemFits least (length (take (length s - k) (drop k s))) r → (i j bytes : ℕ) → r ≡ item_answer.Item i j bytes
     → (least ≤ i) × (i ≤ 255) × (1 ≤ bytes) × (bytes ≤ length s - k)
 fits_item least k s r f i j bytes e =
     subst (λ (n : ℕ). (least ≤ i) × (i ≤ 255) × (1 ≤ bytes) × (bytes ≤ n)) (ap length (rest_part s k) ∙ length-drop k s)

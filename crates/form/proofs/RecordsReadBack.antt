@@ -18,7 +18,7 @@ use Rattle.field.proofs.Answers.{good_not_refused, bind_good, check_good, good_s
 use Rattle.field.proofs.Tests.{and_parts, parts_and, true_T}
 use Rattle.field.proofs.Fields.{field_length, field_length_of, field_body_of, field_front}
 use Rattle.algebra.specs.Item.{Item, one, two, first}
-use Rattle.form.specs.Form.{ItemTag, one_tag, two-tag, ItemRead, StepRead, Recorded, step, one_more, check_header, item_tag, action_count, item_spelt, read_item, read_items, read_step, read_lent_step, read_steps}
+use Rattle.form.specs.Form.{ItemTag, one_tag, two_tag, ItemRead, StepRead, Recorded, step, one_more, check_header, item_tag, action_count, item_spelt, read_item, read_items, read_step, read_lent_step, read_steps}
 use Rattle.form.specs.Bytes.{encode_item, encode_items, encode_step, encode_record, firsts_rise, numbered, step_within, steps_within, recorded}
 
 header_passes : (at : ℕ) (s : List ℕ) → 3 ≤ length s → length_of s ≤ length s - 3 → check_header at s ≡ good tt
@@ -102,15 +102,15 @@ record_reads_back Ss t = record_reads 0 Ss t
 -- The other way: what was read stands in the bytes as it is encoded.
 abbrev item_number : ItemTag → ℕ
 item_number one_tag = 0x21
-item_number two-tag = 0x22
+item_number two_tag = 0x22
 
 tag_at_number : (at t : ℕ) (g : ItemTag) → item_tag at t ≡ good g → t ≡ item_number g
 unfolding item_tag
 tag_at_number at t g = go (eqb t 0x21) (eqb t 0x22) refl refl
   where
-    go : (a b : Bool) → eqb t 0x21 ≡ a → eqb t 0x22 ≡ b → cond a (good one_tag) (cond b (good two-tag) (refused wrong_tag at)) ≡ good g → t ≡ item_number g
+    go : (a b : Bool) → eqb t 0x21 ≡ a → eqb t 0x22 ≡ b → cond a (good one_tag) (cond b (good two_tag) (refused wrong_tag at)) ≡ good g → t ≡ item_number g
     go true b i j e = eqb-true t 0x21 i ∙ ap item_number (good_same one_tag g e)
-    go false true i j e = eqb-true t 0x22 j ∙ ap item_number (good_same two-tag g e)
+    go false true i j e = eqb-true t 0x22 j ∙ ap item_number (good_same two_tag g e)
     go false false i j e = good_not_refused (refused wrong_tag at) g wrong_tag at e refl
 
 -- the tests of a header that was read
@@ -137,15 +137,15 @@ item_spells one_tag [] l g n = absurd (let z : ⊥ = omega arith in z)
 item_spells one_tag (x ∷ []) l g n = absurd (let z : ⊥ = omega arith in z)
 item_spells one_tag (x ∷ y ∷ []) l g n = absurd (let z : ⊥ = omega arith in z)
 item_spells one_tag (x ∷ y ∷ z ∷ []) l g n = absurd (let z : ⊥ = omega arith in z)
-item_spells two-tag (x ∷ y ∷ z ∷ a ∷ b ∷ s) l g n =
+item_spells two_tag (x ∷ y ∷ z ∷ a ∷ b ∷ s) l g n =
     let p : y ≡ 0 = omega arith in
     let q : z ≡ 2 = omega arith in
     λ i. g i ∷ (p i ∷ (q i ∷ (a ∷ (b ∷ s))))
-item_spells two-tag [] l g n = absurd (let z : ⊥ = omega arith in z)
-item_spells two-tag (x ∷ []) l g n = absurd (let z : ⊥ = omega arith in z)
-item_spells two-tag (x ∷ y ∷ []) l g n = absurd (let z : ⊥ = omega arith in z)
-item_spells two-tag (x ∷ y ∷ z ∷ []) l g n = absurd (let z : ⊥ = omega arith in z)
-item_spells two-tag (x ∷ y ∷ z ∷ a ∷ []) l g n = absurd (let z : ⊥ = omega arith in z)
+item_spells two_tag [] l g n = absurd (let z : ⊥ = omega arith in z)
+item_spells two_tag (x ∷ []) l g n = absurd (let z : ⊥ = omega arith in z)
+item_spells two_tag (x ∷ y ∷ []) l g n = absurd (let z : ⊥ = omega arith in z)
+item_spells two_tag (x ∷ y ∷ z ∷ []) l g n = absurd (let z : ⊥ = omega arith in z)
+item_spells two_tag (x ∷ y ∷ z ∷ a ∷ []) l g n = absurd (let z : ⊥ = omega arith in z)
 
 record ItemSays (least : ℕ) (s : List ℕ) (r : ItemRead) : Type 0 where
   rises : T (leb least (first r.item))

@@ -17,10 +17,10 @@ use Rattle.algebra.specs.Item.{Item}
 use Rattle.form.specs.Form.{StepRead, check_header, read_items, read_step, read_lent_step}
 use Rattle.form.specs.inner.FormSays.{items_in, items_say, Bytes, ItemsFit, head_says, HeadFits, step_head, step_says, StepFits}
 use Rattle.form.specs.declared.ItemsAnswer.{ItemsAnswer}
-use Rattle.form.specs.declared.ItemsAnswer.TheVariants as items-answer
+use Rattle.form.specs.declared.ItemsAnswer.TheVariants as items_answer
 use Rattle.form.specs.declared.HeadAnswer.{HeadAnswer}
-use Rattle.form.specs.declared.HeadAnswer.TheVariants as head-answer
-use Rattle.form.specs.declared.StepAnswer.TheVariants as step-answer
+use Rattle.form.specs.declared.HeadAnswer.TheVariants as head_answer
+use Rattle.form.specs.declared.StepAnswer.TheVariants as step_answer
 
 -- the step of a body's items
 abbrev of_items : ℕ → Answer (List Item) → Answer StepRead
@@ -62,10 +62,10 @@ head_length at s n e =
     sym (good_same (length_of s) n c.1)
 
 module _ (at : ℕ) (s : List ℕ) (r : HeadAnswer) (says : head_says at r ≡ step_head at s) where
-  pub step_refused : (n : ℕ) → r ≡ head-answer.Refused n → refused n at ≡ read_step at s
+  pub step_refused : (n : ℕ) → r ≡ head_answer.Refused n → refused n at ≡ read_step at s
   step_refused n e = let h : refused n at ≡ step_head at s = sym (ap (head_says at) e) ∙ says in sym (step_split at s ∙ rw (← h))
 
-  module _ (n : ℕ) (e : r ≡ head-answer.Body n) where
+  module _ (n : ℕ) (e : r ≡ head_answer.Body n) where
     head_good : good n ≡ step_head at s
     head_good = sym (ap (head_says at) e) ∙ says
 
@@ -76,16 +76,16 @@ module _ (at : ℕ) (s : List ℕ) (r : HeadAnswer) (says : head_says at r ≡ s
       step_rest : of_items n (items_say at q firsts seconds) ≡ read_step at s
       step_rest = ap (of_items n) (items ∙ ap (read_items at 0 0) body_part) ∙ sym (step_split at s ∙ rw (← head_good))
 
-      pub step_items_refused : (k : ℕ) → q ≡ items-answer.Refused k → refused k at ≡ read_step at s
+      pub step_items_refused : (k : ℕ) → q ≡ items_answer.Refused k → refused k at ≡ read_step at s
       step_items_refused k f = sym (ap (λ (a : ItemsAnswer). of_items n (items_say at a firsts seconds)) f) ∙ step_rest
 
-      pub step_read : (k : ℕ) → q ≡ items-answer.Items k → step_says at (step-answer.Step k (3 + n)) firsts seconds ≡ read_step at s
+      pub step_read : (k : ℕ) → q ≡ items_answer.Items k → step_says at (step_answer.Step k (3 + n)) firsts seconds ≡ read_step at s
       step_read k f = sym (ap (λ (a : ItemsAnswer). of_items n (items_say at a firsts seconds)) f) ∙ step_rest
 
-pub head_fits : (left n : ℕ) (r : HeadAnswer) → HeadFits left r → r ≡ head-answer.Body n → 3 + n ≤ left
+pub head_fits : (left n : ℕ) (r : HeadAnswer) → HeadFits left r → r ≡ head_answer.Body n → 3 + n ≤ left
 head_fits left n r f e = subst (HeadFits left) e f
 
-pub items_fit : (k : ℕ) (q : ItemsAnswer) (firsts seconds : List ℕ) → ItemsFit q firsts seconds → q ≡ items-answer.Items k → (k ≤ 256) × (k ≤ length firsts) × (k ≤ length seconds) × Bytes k firsts
+pub items_fit : (k : ℕ) (q : ItemsAnswer) (firsts seconds : List ℕ) → ItemsFit q firsts seconds → q ≡ items_answer.Items k → (k ≤ 256) × (k ≤ length firsts) × (k ≤ length seconds) × Bytes k firsts
 items_fit k q firsts seconds f e = subst (λ (a : ItemsAnswer). ItemsFit a firsts seconds) e f
 
 -- The first actions of the front of a list.
@@ -95,10 +95,10 @@ bytes_part n firsts l b k h =
     subst (λ (x : ℕ). x < 256) (sym (get_or-take n firsts k 0 inside)) (b k inside)
 
 module _ (s : List ℕ) (r : HeadAnswer) (says : head_says 0 r ≡ step_head 0 s) where
-  pub lent_refused : (n : ℕ) → r ≡ head-answer.Refused n → refused n 0 ≡ read_lent_step s
+  pub lent_refused : (n : ℕ) → r ≡ head_answer.Refused n → refused n 0 ≡ read_lent_step s
   lent_refused n e = let h : refused n 0 ≡ step_head 0 s = sym (ap (head_says 0) e) ∙ says in sym (lent_split s ∙ rw (← h))
 
-  module _ (n : ℕ) (e : r ≡ head-answer.Body n) where
+  module _ (n : ℕ) (e : r ≡ head_answer.Body n) where
     pub lent_behind : (n ≡ length s - 3 → ⊥) → refused wrong_length 0 ≡ read_lent_step s
     lent_behind k = sym (lent_split s ∙ rw (← head_good 0 s r says n e, ne_eqb n (length s - 3) k))
 

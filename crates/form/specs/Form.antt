@@ -14,19 +14,19 @@ check_header at s = do
 
 -- "21 hex with one action, or 22 hex with two"
 pub data ItemTag : Type 0 where
-  one_tag two-tag : ItemTag
+  one_tag two_tag : ItemTag
 
 unfoldable pub item_tag : ℕ → ℕ → Answer ItemTag
-item_tag at t = cond (eqb t 0x21) (good one_tag) (cond (eqb t 0x22) (good two-tag) (refused wrong_tag at))
+item_tag at t = cond (eqb t 0x21) (good one_tag) (cond (eqb t 0x22) (good two_tag) (refused wrong_tag at))
 
 -- the actions that an item of that tag has, and the item of a field's bytes
 abbrev pub action_count : ItemTag → ℕ
 action_count one_tag = 1
-action_count two-tag = 2
+action_count two_tag = 2
 
 abbrev pub item_spelt : ItemTag → List ℕ → Item
 item_spelt one_tag s = one (get_or s 3 0)
-item_spelt two-tag s = two (get_or s 3 0) (get_or s 4 0)
+item_spelt two_tag s = two (get_or s 3 0) (get_or s 4 0)
 
 pub record ItemRead : Type 0 where
   pub item : Item

@@ -1,5 +1,7 @@
 // The form of a step field and of its items: 01, "Run records", and the refusals 21 to 24. A refusal here is its number alone: what it
 // carries, the step's offset, is known to the caller.
+#![tactic(auto)]
+
 ghost use Rattle.std.specs.Prelude.{◌≡◌, ℕ, length, replicate};
 ghost use Rattle.form.specs.Form.{read_item, read_items, read_step, read_lent_step};
 ghost use Rattle.form.specs.inner.FormSays.{tag_count, item_says, ItemFits, item_number, items_say, ItemsFit, head_says, HeadFits, step_head, step_says, StepFits};

@@ -1,5 +1,7 @@
 // 01, "Refusal numbers": everything that 1 to 13 ask is known before the first arc is made, and with it where each arc will stand. So
 // compile tests 14 on the lent tables, and replay makes as much room as its net takes.
+#![tactic(auto)]
+
 pub mod front;
 
 ghost use Rattle.std.specs.Prelude.{◌≡◌, ◌*◌, ◌≤◌, length};

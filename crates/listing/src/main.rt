@@ -1,4 +1,6 @@
 // 01, "Known nets": writes the net of the plan on standard input, or why the plan is refused.
+#![tactic(auto)]
+
 mod lines;
 
 use compile::Compiling;

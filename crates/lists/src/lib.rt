@@ -1,5 +1,7 @@
 // Where the lists of each node stand in the whole net, eleven numbers to a node: five for its entries, five for its exits, and the number
 // of its first internal place. Nothing here is larger than the number of places, which 11 has judged before; `%` keeps to 16 bits.
+#![tactic(auto)]
+
 pub mod placing;
 
 ghost use Rattle.std.specs.Prelude.{◌≡◌, [], ◌+◌, ◌*◌, ◌≤◌, length};

@@ -1,6 +1,8 @@
 // Takes and puts the tokens of a step's items, in place. Each pass goes over the items' own arcs only, so that the work grows with the step
 // and not with the net. A refusal comes after tokens were moved, but every place that may have been touched then is known to have held
 // the same number before, so that a pass which puts that number there leaves the marking as it was.
+#![tactic(auto)]
+
 ghost use Rattle.std.specs.Prelude.{◌≡◌, Bool, true, false, ℕ, ◌+◌, ◌*◌, ◌<◌, ◌≤◌, length, get_or};
 ghost use Rattle.algebra.specs.Firing.{count};
 ghost use Rattle.net.specs.inner.Chains.{in_row};

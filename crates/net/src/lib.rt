@@ -1,5 +1,7 @@
 // The tables of a net as they are lent: whether they are a net (check 30), whether a marking is one (check 35),
 // and an index of the transitions by their first action.
+#![tactic(auto)]
+
 ghost use Rattle.std.specs.Prelude.{◌≡◌, true, ◌&&◌, ◌*◌, ◌≤◌, length, replicate, leb};
 ghost use Rattle.field.specs.Limits.{place_limit, transition_limit, arc_limit};
 ghost use Rattle.net.specs.Check.{is_net};

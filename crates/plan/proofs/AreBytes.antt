@@ -1,30 +1,29 @@
 -- The bytes of an expression within the limits are bytes: none is above 255.
 -- True because a label, a name and a tag are bytes, and a body that is short enough has a length of two bytes.
-use Prim.Native.Nat.{ℕ, zero, suc, ◌+◌, ◌/◌, ◌%◌, ◌≤◌, ◌<◌, min}
+use Prim.Native.Nat.{ℕ, zero, suc, ◌+◌, ◌≤◌, ◌<◌}
 use mathlib.Core.Path.{◌≡◌}
-use mathlib.Core.List.{List, [], ◌∷◌, ◌++◌}
+use mathlib.Core.List.{[], ◌∷◌, ◌++◌}
 use mathlib.Core.Bool.{Bool, true, false, ◌&&◌, ◌||◌}
 use native.Mathlib.Omega.{arith}
-use lib.ListN.{length, get_or, take, drop, length-append, length-drop, length-take}
-use lib.Seq.{get_or-drop, get_or-take, get_or-append-add}
+use lib.ListN.{length, get_or, length-append}
 use lib.Dec.{T, leb, leb→le}
 use Rattle.field.specs.Field.{field}
 use Rattle.field.proofs.AreBytes.{AreBytes, none_are_bytes, cons_are_bytes, both_are_bytes, field_are_bytes}
 use Rattle.field.proofs.Fields.{field_length}
 use Rattle.field.proofs.Tests.{and_parts}
 use Rattle.algebra.specs.Expr.{Expr, action}
-use Rattle.plan.specs.Reading.{is_label, Operands, Tag, action-tag, sequence-tag, choice-tag, parallel-tag, loop-tag, scope-tag}
+use Rattle.plan.specs.Reading.{is_label, Operands, Tag, action_tag, sequence_tag, choice_tag, parallel_tag, loop_tag, scope_tag}
 use Rattle.plan.specs.Bytes.{encode, named, within_limits}
-use Rattle.plan.proofs.Operators.{Operator, sequence-of, choice-of, parallel-of, loop_of, scope_of, tag_number, tag, number, arity, own, own_named, built, all_encode, all_named, built_encode, built_named, Each, by_operators}
+use Rattle.plan.proofs.Operators.{Operator, sequence_of, choice_of, parallel_of, loop_of, scope_of, tag_number, tag, number, arity, own, own_named, built, all_encode, all_named, built_encode, built_named, Each, by_operators}
 use Rattle.plan.proofs.Within.{limits_within}
 
 tag_is_byte : (g : Tag) → tag_number g < 256
-tag_is_byte action-tag = omega arith
-tag_is_byte sequence-tag = omega arith
-tag_is_byte choice-tag = omega arith
-tag_is_byte parallel-tag = omega arith
-tag_is_byte loop-tag = omega arith
-tag_is_byte scope-tag = omega arith
+tag_is_byte action_tag = omega arith
+tag_is_byte sequence_tag = omega arith
+tag_is_byte choice_tag = omega arith
+tag_is_byte parallel_tag = omega arith
+tag_is_byte loop_tag = omega arith
+tag_is_byte scope_tag = omega arith
 
 label_is_byte : (l : ℕ) → T (is_label l) → l < 256
 label_is_byte l = go (leb l 127) (λ t. leb→le l 127 t)
@@ -34,9 +33,9 @@ label_is_byte l = go (leb l 127) (λ t. leb→le l 127 t)
     go false h t = omega (arith, leb→le l 255 (and_parts (leb 129 l) (leb l 255) t).1)
 
 own_are_bytes : (o : Operator) → T (own_named o) → AreBytes (own o)
-own_are_bytes sequence-of t = none_are_bytes
-own_are_bytes choice-of t = none_are_bytes
-own_are_bytes parallel-of t = none_are_bytes
+own_are_bytes sequence_of t = none_are_bytes
+own_are_bytes choice_of t = none_are_bytes
+own_are_bytes parallel_of t = none_are_bytes
 own_are_bytes loop_of t = none_are_bytes
 own_are_bytes (scope_of a) t = cons_are_bytes a [] (omega (arith, leb→le a 127 (and_parts (leb 1 a) (leb a 127) t).1)) none_are_bytes
 
@@ -53,7 +52,7 @@ all_are_bytes (suc k) es h l t =
 
 action_are_bytes : (l : ℕ) → EncodeAreBytes (action l)
 unfolding encode named
-action_are_bytes l h t = field_are_bytes (tag_number action-tag) (l ∷ []) (tag_is_byte action-tag) (omega arith) (cons_are_bytes l [] (label_is_byte l t) none_are_bytes)
+action_are_bytes l h t = field_are_bytes (tag_number action_tag) (l ∷ []) (tag_is_byte action_tag) (omega arith) (cons_are_bytes l [] (label_is_byte l t) none_are_bytes)
 
 built_are_bytes : (o : Operator) (es : Operands (arity o)) → Each EncodeAreBytes (arity o) es → EncodeAreBytes (built o es)
 built_are_bytes o es h l t =

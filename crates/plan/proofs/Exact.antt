@@ -17,10 +17,10 @@ use Rattle.field.proofs.Answers.{good_not_refused, check_good, bind_good, good_s
 use Rattle.field.proofs.Tests.{and_parts, parts_and, true_T}
 use Rattle.field.proofs.Fields.{field_front, body_of_length}
 use Rattle.algebra.specs.Expr.{Expr, action, actions}
-use Rattle.plan.specs.Reading.{is_label, is_name, Tag, action-tag, sequence-tag, choice-tag, parallel-tag, loop-tag, scope-tag, tag_spelt, Part, Parts, Reader, read_operands, read_body, read_field, read_plan}
+use Rattle.plan.specs.Reading.{is_label, is_name, Tag, action_tag, sequence_tag, choice_tag, parallel_tag, loop_tag, scope_tag, tag_spelt, Part, Parts, Reader, read_operands, read_body, read_field, read_plan}
 use Rattle.plan.specs.Loops.{bytes}
 use Rattle.plan.specs.Bytes.{encode, depth, named, within_limits}
-use Rattle.plan.proofs.Operators.{Operator, sequence-of, choice-of, parallel-of, loop_of, scope_of, tag_number, tag, number, arity, own, own_named, built, all_encode, all_bytes, all_actions, all_depth, all_named, built_encode, built_bytes, built_actions, built_depth, built_named}
+use Rattle.plan.proofs.Operators.{Operator, sequence_of, choice_of, parallel_of, loop_of, scope_of, tag_number, tag, number, arity, own, own_named, built, all_encode, all_bytes, all_actions, all_depth, all_named, built_encode, built_bytes, built_actions, built_depth, built_named}
 use Rattle.plan.proofs.Within.{Within, within_the_limits}
 use Rattle.plan.proofs.ReadBack.{encode_length}
 use Rattle.field.proofs.AreBytes.{AreBytes, drop_are_bytes, take_are_bytes, rest_are_bytes}
@@ -40,12 +40,12 @@ tag_or_next t k f g r e h = go (eqb t k) refl
 tag_at_number : (t at : ℕ) (g : Tag) → tag_spelt t at ≡ good g → t ≡ tag_number g
 unfolding tag_spelt
 tag_at_number t at g =
-    tag_or_next t 1 action-tag g _ refl
-    (tag_or_next t 2 sequence-tag g _ refl
-    (tag_or_next t 3 choice-tag g _ refl
-    (tag_or_next t 4 parallel-tag g _ refl
-    (tag_or_next t 5 loop-tag g _ refl
-    (tag_or_next t 6 scope-tag g _ refl
+    tag_or_next t 1 action_tag g _ refl
+    (tag_or_next t 2 sequence_tag g _ refl
+    (tag_or_next t 3 choice_tag g _ refl
+    (tag_or_next t 4 parallel_tag g _ refl
+    (tag_or_next t 5 loop_tag g _ refl
+    (tag_or_next t 6 scope_tag g _ refl
     (λ e. good_not_refused (refused unknown_tag at) g unknown_tag at e refl))))))
 
 -- what is read of a field is the expression whose bytes stand there
@@ -124,7 +124,7 @@ operator_says d o s body n q h t e a =
           header_front s (tag o) h b ∙ ap (field (number o)) (e ∙ ap (λ (u : List ℕ). own o ++ u) w) ∙ sym (built_encode o q.operands);
     }
 
-action_says : (d : ℕ) (s : List ℕ) (n : ℕ) → Header s action-tag → length (body_of s) ≡ 1 → T (is_label (get_or (body_of s) 0 0)) → n < action_limit
+action_says : (d : ℕ) (s : List ℕ) (n : ℕ) → Header s action_tag → length (body_of s) ≡ 1 → T (is_label (get_or (body_of s) 0 0)) → n < action_limit
     → Says (suc d) s n (record { expr = action (get_or (body_of s) 0 0); bytes = 3 + length_of s; so_far = n + 1 })
 unfolding bytes actions depth named encode
 action_says d s n h e t m =
@@ -136,7 +136,7 @@ action_says d s n h e t m =
       few = λ i. omega arith;
       shallow = omega arith;
       labelled = t;
-      front = λ b. header_front s action-tag h b ∙ ap (field 1) (one_byte (body_of s) e);
+      front = λ b. header_front s action_tag h b ∙ ap (field 1) (one_byte (body_of s) e);
     }
 
 operator_read : (d : ℕ) (read : Reader) → Right d read → (o : Operator) (s body : List ℕ) (at n : ℕ) (p : Part) → Header s (tag o) → T (own_named o) → body_of s ≡ own o ++ body
@@ -149,17 +149,17 @@ operator_read d read r o s body at n p h t e f =
 body_says : (d : ℕ) (read : Reader) → Right d read → (g : Tag) (s : List ℕ) (at n : ℕ) (p : Part) → Header s g
     → read_body read g (body_of s) at (3 + length_of s) n ≡ good p → Says (suc d) s n p
 unfolding read_body
-body_says d read r action-tag s at n p h e =
+body_says d read r action_tag s at n p h e =
     let (one, f) = check_good (eqb (length (body_of s)) 1) wrong_body at _ p e in
     let (label, f') = check_good (is_label (get_or (body_of s) 0 0)) wrong_label at _ p f in
     let (few, f'') = check_good (ltb n action_limit) too_many_actions at _ p f' in
     subst (λ (m : Part). Says (suc d) s n m) (good_same _ p f'')
     (action_says d s n h (eqb-true (length (body_of s)) 1 one) (true_T (is_label (get_or (body_of s) 0 0)) label) (ltb-true n action_limit few))
-body_says d read r sequence-tag s at n p h e = operator_read d read r sequence-of s (body_of s) (at + 3) n p h tt refl e
-body_says d read r choice-tag s at n p h e = operator_read d read r choice-of s (body_of s) (at + 3) n p h tt refl e
-body_says d read r parallel-tag s at n p h e = operator_read d read r parallel-of s (body_of s) (at + 3) n p h tt refl e
-body_says d read r loop-tag s at n p h e = operator_read d read r loop_of s (body_of s) (at + 3) n p h tt refl e
-body_says d read r scope-tag s at n p h e =
+body_says d read r sequence_tag s at n p h e = operator_read d read r sequence_of s (body_of s) (at + 3) n p h tt refl e
+body_says d read r choice_tag s at n p h e = operator_read d read r choice_of s (body_of s) (at + 3) n p h tt refl e
+body_says d read r parallel_tag s at n p h e = operator_read d read r parallel_of s (body_of s) (at + 3) n p h tt refl e
+body_says d read r loop_tag s at n p h e = operator_read d read r loop_of s (body_of s) (at + 3) n p h tt refl e
+body_says d read r scope_tag s at n p h e =
     let (some, f) = check_good (leb 1 (length (body_of s))) wrong_body at _ p e in
     let (name, f') = check_good (is_name (get_or (body_of s) 0 0)) wrong_label at _ p f in
     operator_read d read r (scope_of (get_or (body_of s) 0 0)) s (drop 1 (body_of s)) (at + 4) n p h (true_T (is_name (get_or (body_of s) 0 0)) name)

@@ -16,11 +16,11 @@ use Rattle.field.specs.Field.{tag_of, length_of, body_of}
 use Rattle.field.proofs.Tests.{true_T}
 use Rattle.field.proofs.Fields.{body_of_length}
 use Rattle.algebra.specs.Expr.{action}
-use Rattle.plan.specs.Reading.{is_label, is_name, Tag, action-tag, sequence-tag, choice-tag, parallel-tag, loop-tag, scope-tag, tag_spelt, Part, Reader, read_body}
+use Rattle.plan.specs.Reading.{is_label, is_name, Tag, action_tag, sequence_tag, choice_tag, parallel_tag, loop_tag, scope_tag, tag_spelt, Part, Reader, read_body}
 use Rattle.plan.specs.inner.Fields.{Inside, field_with, IsOperator, HeadIs}
 use Rattle.plan.specs.declared.Head.{Head}
 use Rattle.plan.specs.declared.Head.TheVariants as head
-use Rattle.plan.proofs.Operators.{Operator, sequence-of, choice-of, parallel-of, loop_of, scope_of, tag_number, tag, number, arity, own, own_named, built, number_tag}
+use Rattle.plan.proofs.Operators.{Operator, sequence_of, choice_of, parallel_of, loop_of, scope_of, tag_number, tag, number, arity, own, own_named, built, number_tag}
 use Rattle.plan.proofs.ReadBack.{header_passes, own_reads}
 use Rattle.plan.proofs.Rows.{own_byte, built_count, built_rows}
 
@@ -71,40 +71,40 @@ module _ (s : List ℕ) (at len n : ℕ) (h : Inside s len) where
   first_byte m = get_or-take (length_of s) (drop 3 s) 0 0 (omega (arith, h.told)) ∙ get_or-drop 3 s 0 0
 
   module _ (read : Reader) where
-    pub action_wrong_body : (len ≡ 1 → ⊥) → read_body read action-tag (body_of s) at (3 + length_of s) n ≡ refused wrong_body at
+    pub action_wrong_body : (len ≡ 1 → ⊥) → read_body read action_tag (body_of s) at (3 + length_of s) n ≡ refused wrong_body at
     unfolding read_body
     action_wrong_body m = rw (ne_eqb (length (body_of s)) 1 (λ e. m (sym body_length ∙ e)))
 
-    pub action_wrong_label : len ≡ 1 → get_or s 3 0 ≡ 128 → read_body read action-tag (body_of s) at (3 + length_of s) n ≡ refused wrong_label at
+    pub action_wrong_label : len ≡ 1 → get_or s 3 0 ≡ 128 → read_body read action_tag (body_of s) at (3 + length_of s) n ≡ refused wrong_label at
     unfolding read_body
     action_wrong_label m e = rw (eq-eqb (length (body_of s)) 1 (body_length ∙ m), first_byte (omega arith), label_128 (get_or s 3 0) e)
 
     pub action_beyond_limit : len ≡ 1 → (get_or s 3 0 ≡ 128 → ⊥) → get_or s 3 0 < 256 → action_limit ≤ n
-        → read_body read action-tag (body_of s) at (3 + length_of s) n ≡ refused too_many_actions at
+        → read_body read action_tag (body_of s) at (3 + length_of s) n ≡ refused too_many_actions at
     unfolding read_body
     action_beyond_limit m e b i = rw (eq-eqb (length (body_of s)) 1 (body_length ∙ m), first_byte (omega arith), other_label (get_or s 3 0) e b, le-ltb n action_limit i)
 
     pub action_read : len ≡ 1 → (get_or s 3 0 ≡ 128 → ⊥) → get_or s 3 0 < 256 → n < action_limit
-        → read_body read action-tag (body_of s) at (3 + length_of s) n ≡ good (record { expr = action (get_or s 3 0); bytes = 4; so_far = n + 1 })
+        → read_body read action_tag (body_of s) at (3 + length_of s) n ≡ good (record { expr = action (get_or s 3 0); bytes = 4; so_far = n + 1 })
     unfolding read_body
     action_read m e b i = rw (eq-eqb (length (body_of s)) 1 (body_length ∙ m), first_byte (omega arith), other_label (get_or s 3 0) e b, lt-ltb n action_limit i, sym h.told, m)
 
-    pub scope_wrong_body : len ≡ 0 → read_body read scope-tag (body_of s) at (3 + length_of s) n ≡ refused wrong_body at
+    pub scope_wrong_body : len ≡ 0 → read_body read scope_tag (body_of s) at (3 + length_of s) n ≡ refused wrong_body at
     unfolding read_body
     scope_wrong_body m = rw (lt-leb 1 (length (body_of s)) (omega (arith, body_length)))
 
-    pub scope_no_name : (len ≡ 0 → ⊥) → (is_name (get_or s 3 0)) ≡ false → read_body read scope-tag (body_of s) at (3 + length_of s) n ≡ refused wrong_label at
+    pub scope_no_name : (len ≡ 0 → ⊥) → (is_name (get_or s 3 0)) ≡ false → read_body read scope_tag (body_of s) at (3 + length_of s) n ≡ refused wrong_label at
     unfolding read_body
     scope_no_name m e = rw (le-leb 1 (length (body_of s)) (omega (arith, body_length)), first_byte (omega arith), e)
 
-  pub scope_zero : (len ≡ 0 → ⊥) → get_or s 3 0 ≡ 0 → (read : Reader) → read_body read scope-tag (body_of s) at (3 + length_of s) n ≡ refused wrong_label at
+  pub scope_zero : (len ≡ 0 → ⊥) → get_or s 3 0 ≡ 0 → (read : Reader) → read_body read scope_tag (body_of s) at (3 + length_of s) n ≡ refused wrong_label at
   scope_zero m e read = scope_no_name read m (no_name (get_or s 3 0) e)
 
-  pub scope_high : (len ≡ 0 → ⊥) → 127 < get_or s 3 0 → (read : Reader) → read_body read scope-tag (body_of s) at (3 + length_of s) n ≡ refused wrong_label at
+  pub scope_high : (len ≡ 0 → ⊥) → 127 < get_or s 3 0 → (read : Reader) → read_body read scope_tag (body_of s) at (3 + length_of s) n ≡ refused wrong_label at
   scope_high m e read = scope_no_name read m (high_name (get_or s 3 0) e)
 
   pub scope_read : (len ≡ 0 → ⊥) → (get_or s 3 0 ≡ 0 → ⊥) → get_or s 3 0 ≤ 127
-      → IsOperator 6 (get_or s 3 0) 1 4 (len - 1) s at n (λ read. read_body read scope-tag (body_of s) at (3 + length_of s) n)
+      → IsOperator 6 (get_or s 3 0) 1 4 (len - 1) s at n (λ read. read_body read scope_tag (body_of s) at (3 + length_of s) n)
   scope_read m e i =
       let a : drop 3 s ≡ get_or s 3 0 ∷ drop 4 s = drop-cons s 3 0 (omega (arith, h.fits)) in
       let one : length_of s ≡ suc (len - 1) = omega (arith, h.told) in
@@ -126,12 +126,12 @@ known_tag : (t : ℕ) → (t ≡ 0 → ⊥) → t ≤ 6 → (g : Tag) × (t ≡ 
 known_tag t h0 h6 = go (eqb t 1) (eqb t 2) (eqb t 3) (eqb t 4) (eqb t 5) refl refl refl refl refl
   where
     go : (b1 b2 b3 b4 b5 : Bool) → eqb t 1 ≡ b1 → eqb t 2 ≡ b2 → eqb t 3 ≡ b3 → eqb t 4 ≡ b4 → eqb t 5 ≡ b5 → (g : Tag) × (t ≡ tag_number g)
-    go true b2 b3 b4 b5 e1 e2 e3 e4 e5 = (action-tag, eqb-true t 1 e1)
-    go false true b3 b4 b5 e1 e2 e3 e4 e5 = (sequence-tag, eqb-true t 2 e2)
-    go false false true b4 b5 e1 e2 e3 e4 e5 = (choice-tag, eqb-true t 3 e3)
-    go false false false true b5 e1 e2 e3 e4 e5 = (parallel-tag, eqb-true t 4 e4)
-    go false false false false true e1 e2 e3 e4 e5 = (loop-tag, eqb-true t 5 e5)
-    go false false false false false e1 e2 e3 e4 e5 = (scope-tag, omega (arith, eqb-false t 1 e1, eqb-false t 2 e2, eqb-false t 3 e3, eqb-false t 4 e4, eqb-false t 5 e5))
+    go true b2 b3 b4 b5 e1 e2 e3 e4 e5 = (action_tag, eqb-true t 1 e1)
+    go false true b3 b4 b5 e1 e2 e3 e4 e5 = (sequence_tag, eqb-true t 2 e2)
+    go false false true b4 b5 e1 e2 e3 e4 e5 = (choice_tag, eqb-true t 3 e3)
+    go false false false true b5 e1 e2 e3 e4 e5 = (parallel_tag, eqb-true t 4 e4)
+    go false false false false true e1 e2 e3 e4 e5 = (loop_tag, eqb-true t 5 e5)
+    go false false false false false e1 e2 e3 e4 e5 = (scope_tag, omega (arith, eqb-false t 1 e1, eqb-false t 2 e2, eqb-false t 3 e3, eqb-false t 4 e4, eqb-false t 5 e5))
 
 module _ (s : List ℕ) (at n : ℕ) where
   pub header_cut : length s < 3 → (read : Reader) → field_with read s at n ≡ refused field_cut at
@@ -173,9 +173,9 @@ module _ (s : List ℕ) (at n : ℕ) where
     two_operands_head h0 h6 h1 h6' h5 = go (eqb (tag_of s) 2) (eqb (tag_of s) 3) refl refl
       where
         go : (b c : Bool) → eqb (tag_of s) 2 ≡ b → eqb (tag_of s) 3 ≡ c → IsOperator (tag_of s) 0 2 3 (length_of s) s at n (λ read. field_with read s at n)
-        go true c e f = operands_head sequence-of (eqb-true (tag_of s) 2 e) tt refl refl
-        go false true e f = operands_head choice-of (eqb-true (tag_of s) 3 f) tt refl refl
-        go false false e f = operands_head parallel-of (omega (arith, eqb-false (tag_of s) 2 e, eqb-false (tag_of s) 3 f)) tt refl refl
+        go true c e f = operands_head sequence_of (eqb-true (tag_of s) 2 e) tt refl refl
+        go false true e f = operands_head choice_of (eqb-true (tag_of s) 3 f) tt refl refl
+        go false false e f = operands_head parallel_of (omega (arith, eqb-false (tag_of s) 2 e, eqb-false (tag_of s) 3 f)) tt refl refl
 
   length_cut_at : (g : Tag) → 3 ≤ length s → tag_spelt (tag_of s) at ≡ good g → length s - 3 < length_of s → (read : Reader) → field_with read s at n ≡ refused field_cut at
   unfolding field_with

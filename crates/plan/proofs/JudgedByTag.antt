@@ -2,7 +2,7 @@
 -- True by the tests that led there: each settles one test of the definition.
 use Prim.Native.Nat.{ℕ, ◌+◌, ◌*◌, ◌≤◌, ◌<◌}
 use mathlib.Core.Path.{◌≡◌, refl, sym, ◌∙◌, ap}
-use mathlib.Core.List.{List, ◌∷◌}
+use mathlib.Core.List.{List}
 use lib.ListN.{get_or}
 use borrow.Author.Tests.{ne_eqb, le-leb, lt-leb}
 use Rattle.field.specs.Refusals.{body_not_exclusive}

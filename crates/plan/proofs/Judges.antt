@@ -1,6 +1,6 @@
 -- One turn of judging, on plain values, and what is known after the last: whether each node is exclusive, and the first faulty loop.
 -- A node is judged from operands that are judged; what a loop's body was judged to be stays so, since bodies come after their loops.
-use Prim.Native.Nat.{ℕ, zero, suc, ◌+◌, ◌*◌, ◌-◌, ◌≤◌, ◌<◌}
+use Prim.Native.Nat.{ℕ, zero, suc, ◌+◌, ◌*◌, ◌≤◌, ◌<◌}
 use native.Mathlib.Omega.{arith}
 use mathlib.Core.Path.{◌≡◌, refl, sym, ◌∙◌, ap, ap₂, subst}
 use mathlib.Core.List.{List, [], ◌∷◌, ◌++◌, append_assoc, append-nil}
@@ -102,23 +102,23 @@ module _ (rows : List ℕ) (count : ℕ) (table : List ℕ) (known : Known rows 
   own {k} E n = joined_one (fault_right rows count table k (λ m i at F h. known m i at F (omega arith)) E n)
 
   -- The faults of the nodes in their order are the faulty loops.
-  faults_right : {k i at : ℕ} (E : Expr) → Node rows count k i at E → Joins (fault_by rows table) k (node_count E) (faulty_loops at E)
+  faults_right : (k : ℕ) {i at : ℕ} (E : Expr) → Node rows count k i at E → Joins (fault_by rows table) k (node_count E) (faulty_loops at E)
   unfolding faulty_loops node_count
-  faults_right (action l) n = own (action l) n
-  faults_right (sequence E F) n =
+  faults_right k (action l) n = own (action l) n
+  faults_right k (sequence E F) n =
       let (e, f) = sequence_operands rows count E F n in
-      joined_next (own (sequence E F) n) (joined_next (faults_right E e) (faults_right F f))
-  faults_right (choice E F) n =
+      joined_next (own (sequence E F) n) (joined_next (faults_right (k + 1) E e) (faults_right (k + 1 + node_count E) F f))
+  faults_right k (choice E F) n =
       let (e, f) = choice_operands rows count E F n in
-      joined_next (own (choice E F) n) (joined_next (faults_right E e) (faults_right F f))
-  faults_right (parallel E F) n =
+      joined_next (own (choice E F) n) (joined_next (faults_right (k + 1) E e) (faults_right (k + 1 + node_count E) F f))
+  faults_right k (parallel E F) n =
       let (e, f) = parallel_operands rows count E F n in
-      joined_next (own (parallel E F) n) (joined_next (faults_right E e) (faults_right F f))
-  faults_right (loop E F G) n =
+      joined_next (own (parallel E F) n) (joined_next (faults_right (k + 1) E e) (faults_right (k + 1 + node_count E) F f))
+  faults_right k (loop E F G) n =
       let ((e, f), g) = loop_operands rows count E F G n in
       joined_next (own (loop E F G) n)
-      (joined_next (faults_right E e) (joined_next (faults_right F f) (faults_right G g)))
-  faults_right (scope a E) n = joined_next (own (scope a E) n) (faults_right E (scope_operand rows count E n))
+      (joined_next (faults_right (k + 1) E e) (joined_next (faults_right (k + 1 + node_count E) F f) (faults_right (k + 1 + node_count E + node_count F) G g)))
+  faults_right k (scope a E) n = joined_next (own (scope a E) n) (faults_right (k + 1) E (scope_operand rows count E n))
 
 first_of_both : (l m : List ℕ) (rest : Answer (Unit {0})) → (no_fault (l ++ m) >> rest) ≡ (no_fault l >> (no_fault m >> rest))
 first_of_both [] [] rest = refl
@@ -198,7 +198,7 @@ unfolding check_loops
 all_judged {rows} {before} {after} {count} j E t =
     let n = table_node t in
     let known = j.known count (none_known rows count 1 exclusive_bit before) in
-    j.first (λ m h. every rows count (λ k. tag_at rows k ≡ 5 → k < after_at rows (k + 1)) (loops_ordered rows count) E n m (omega arith) (omega (arith, t.nodes)))
+    j.first (λ m h. every rows count (λ k. tag_at rows k ≡ 5 → k < after_at rows (k + 1)) (loops_ordered rows count) _ E n m (omega arith) (omega (arith, t.nodes)))
     ∙ first_alone (all_values (fault_by rows after) 0 count)
     ∙ ap (λ m. no_fault (all_values (fault_by rows after) 0 m)) t.nodes
-    ∙ ap no_fault (faults_right rows count after known E n).same
+    ∙ ap no_fault (faults_right rows count after known _ E n).same

@@ -7,7 +7,7 @@ use mathlib.Core.List.{List, [], ◌∷◌, ◌++◌}
 use lib.ListN.{length, get_or, length-append}
 use Rattle.algebra.specs.Expr.{Expr, action, sequence, choice, parallel, loop, scope, actions}
 use Rattle.plan.specs.Loops.{bytes}
-use Rattle.plan.specs.inner.Nodes.{Row, row, numbers, nodes, node_count}
+use Rattle.plan.specs.inner.Nodes.{Row, numbers, nodes, node_count}
 use Rattle.plan.specs.inner.Table.{Stands, Node, tag_at, after_at}
 use Rattle.plan.proofs.Stands.{stands_first, stands_second, stands_at}
 

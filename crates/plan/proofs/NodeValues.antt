@@ -8,7 +8,7 @@ use mathlib.Core.Path.{◌≡◌, sym, ◌∙◌, ap, subst}
 use mathlib.Core.List.{List, ◌++◌}
 use lib.ListN.{length, get_or, length-append, length-take}
 use Rattle.algebra.specs.Expr.{Expr, action, sequence, choice, parallel, loop, scope}
-use Rattle.plan.specs.inner.Nodes.{nodes, node_count, node_table}
+use Rattle.plan.specs.inner.Nodes.{node_count, node_table}
 use Rattle.plan.specs.inner.Table.{Table, Stands, Node, values, Known}
 use Rattle.plan.proofs.Stands.{stands_both, stands_at, stands_take, stands_kept}
 use Rattle.plan.proofs.NodeTable.{rows_length, sequence_operands, choice_operands, parallel_operands, loop_operands, scope_operand}
@@ -47,24 +47,24 @@ module _ (rows : List ℕ) (count : ℕ) where
     here : {k i at : ℕ} (E : Expr) → Node rows count k i at E → From k 1
     here {k} {i} {at} E n m l h = subst P (omega arith) (at-node k i at E n)
 
-    pub every : {k i at : ℕ} (E : Expr) → Node rows count k i at E → From k (node_count E)
+    pub every : (k : ℕ) {i at : ℕ} (E : Expr) → Node rows count k i at E → From k (node_count E)
     unfolding node_count
-    every (action l) n = here (action l) n
-    every {k} (sequence E F) n =
+    every k (action l) n = here (action l) n
+    every k (sequence E F) n =
         let (e, f) = sequence_operands rows count E F n in
-        next k 1 (node_count E + node_count F) (here (sequence E F) n) (next (k + 1) (node_count E) (node_count F) (every E e) (every F f))
-    every {k} (choice E F) n =
+        next k 1 (node_count E + node_count F) (here (sequence E F) n) (next (k + 1) (node_count E) (node_count F) (every (k + 1) E e) (every (k + 1 + node_count E) F f))
+    every k (choice E F) n =
         let (e, f) = choice_operands rows count E F n in
-        next k 1 (node_count E + node_count F) (here (choice E F) n) (next (k + 1) (node_count E) (node_count F) (every E e) (every F f))
-    every {k} (parallel E F) n =
+        next k 1 (node_count E + node_count F) (here (choice E F) n) (next (k + 1) (node_count E) (node_count F) (every (k + 1) E e) (every (k + 1 + node_count E) F f))
+    every k (parallel E F) n =
         let (e, f) = parallel_operands rows count E F n in
-        next k 1 (node_count E + node_count F) (here (parallel E F) n) (next (k + 1) (node_count E) (node_count F) (every E e) (every F f))
-    every {k} (loop E F G) n =
+        next k 1 (node_count E + node_count F) (here (parallel E F) n) (next (k + 1) (node_count E) (node_count F) (every (k + 1) E e) (every (k + 1 + node_count E) F f))
+    every k (loop E F G) n =
         let ((e, f), g) = loop_operands rows count E F G n in
         next k 1 (node_count E + (node_count F + node_count G)) (here (loop E F G) n)
-        (next (k + 1) (node_count E) (node_count F + node_count G) (every E e)
-        (next (k + 1 + node_count E) (node_count F) (node_count G) (every F f) (every G g)))
-    every {k} (scope a E) n = next k 1 (node_count E) (here (scope a E) n) (every E (scope_operand rows count E n))
+        (next (k + 1) (node_count E) (node_count F + node_count G) (every (k + 1) E e)
+        (next (k + 1 + node_count E) (node_count F) (node_count G) (every (k + 1 + node_count E) F f) (every (k + 1 + node_count E + node_count F) G g)))
+    every k (scope a E) n = next k 1 (node_count E) (here (scope a E) n) (every (k + 1) E (scope_operand rows count E n))
 
   module _ (width : ℕ) (f : Expr → List ℕ) where
     -- No node has the count itself or more for its number.
@@ -102,16 +102,16 @@ module _ (rows : List ℕ) (count : ℕ) where
       own : {k i at : ℕ} (E : Expr) → Node rows count k i at E → Filled k 1 (f E)
       own {k} {i} {at} E n = record { stands = known k i at E (omega arith) n; long = omega (arith, wide E) }
 
-      pub filled : {k i at : ℕ} (E : Expr) → Node rows count k i at E → Filled k (node_count E) (values f E)
+      pub filled : (k : ℕ) {i at : ℕ} (E : Expr) → Node rows count k i at E → Filled k (node_count E) (values f E)
       unfolding values node_count
-      filled (action l) n = own (action l) n
-      filled (sequence E F) n =
-          let (e, g) = sequence_operands rows count E F n in behind _ _ (own (sequence E F) n) (behind _ _ (filled E e) (filled F g))
-      filled (choice E F) n =
-          let (e, g) = choice_operands rows count E F n in behind _ _ (own (choice E F) n) (behind _ _ (filled E e) (filled F g))
-      filled (parallel E F) n =
-          let (e, g) = parallel_operands rows count E F n in behind _ _ (own (parallel E F) n) (behind _ _ (filled E e) (filled F g))
-      filled (loop E F G) n =
+      filled k (action l) n = own (action l) n
+      filled k (sequence E F) n =
+          let (e, g) = sequence_operands rows count E F n in behind _ _ (own (sequence E F) n) (behind _ _ (filled (k + 1) E e) (filled (k + 1 + node_count E) F g))
+      filled k (choice E F) n =
+          let (e, g) = choice_operands rows count E F n in behind _ _ (own (choice E F) n) (behind _ _ (filled (k + 1) E e) (filled (k + 1 + node_count E) F g))
+      filled k (parallel E F) n =
+          let (e, g) = parallel_operands rows count E F n in behind _ _ (own (parallel E F) n) (behind _ _ (filled (k + 1) E e) (filled (k + 1 + node_count E) F g))
+      filled k (loop E F G) n =
           let ((e, g), h) = loop_operands rows count E F G n in
-          behind _ _ (own (loop E F G) n) (behind _ _ (filled E e) (behind _ _ (filled F g) (filled G h)))
-      filled (scope a E) n = behind _ _ (own (scope a E) n) (filled E (scope_operand rows count E n))
+          behind _ _ (own (loop E F G) n) (behind _ _ (filled (k + 1) E e) (behind _ _ (filled (k + 1 + node_count E) F g) (filled (k + 1 + node_count E + node_count F) G h)))
+      filled k (scope a E) n = behind _ _ (own (scope a E) n) (filled (k + 1) E (scope_operand rows count E n))

@@ -16,11 +16,11 @@ use Rattle.field.specs.Field.{tag_of, length_of, body_of, field}
 use Rattle.field.proofs.Tests.{and_parts, parts_and, T_true}
 use Rattle.field.proofs.Fields.{field_length, field_tag_of, field_length_of, field_body_of}
 use Rattle.algebra.specs.Expr.{Expr, action, actions}
-use Rattle.plan.specs.Reading.{is_label, Tag, action-tag, tag_spelt, Part, Operands, Parts, Reader, read_operands, read_body, read_field, read_plan, is_name}
+use Rattle.plan.specs.Reading.{is_label, Tag, action_tag, tag_spelt, Part, Operands, Parts, Reader, read_operands, read_body, read_field, read_plan, is_name}
 use Rattle.plan.specs.Loops.{bytes}
 use Rattle.plan.specs.Bytes.{encode, depth, named, within_limits}
 use Rattle.plan.specs.inner.Fields.{field_with}
-use Rattle.plan.proofs.Operators.{Operator, sequence-of, choice-of, parallel-of, loop_of, scope_of, tag, number, arity, own, own_named, built, all_encode, all_bytes, all_actions, all_depth, all_named, number_tag, built_encode, built_bytes, built_actions, built_depth, built_named, Each, by_operators}
+use Rattle.plan.proofs.Operators.{Operator, sequence_of, choice_of, parallel_of, loop_of, scope_of, tag, number, arity, own, own_named, built, all_encode, all_bytes, all_actions, all_depth, all_named, number_tag, built_encode, built_bytes, built_actions, built_depth, built_named, Each, by_operators}
 use Rattle.plan.proofs.Within.{limits_within}
 
 -- an expression's bytes are as many as are counted
@@ -100,16 +100,16 @@ operands_read d (suc k) es h g t at n m =
 pub own_reads : (read : Reader) (o : Operator) (body : List ℕ) (at b n : ℕ) → T (own_named o)
     → read_body read (tag o) (own o ++ body) at b n ≡ (read_operands read (arity o) body (at + (3 + length (own o))) n >>= λ (p : Parts (arity o)). good (record { expr = built o p.operands; bytes = b; so_far = p.so_far }))
 unfolding read_body
-own_reads read sequence-of body at b n t = refl
-own_reads read choice-of body at b n t = refl
-own_reads read parallel-of body at b n t = refl
+own_reads read sequence_of body at b n t = refl
+own_reads read choice_of body at b n t = refl
+own_reads read parallel_of body at b n t = refl
 own_reads read loop_of body at b n t = refl
 own_reads read (scope_of a) body at b n t = rw (le-leb 1 (length (a ∷ body)) (omega arith), T_true (is_name a) t)
 
 action_reads : (l : ℕ) → Reads (action l)
 unfolding encode depth named actions bytes read_body
 action_reads l zero h t rest at n m = absurd (let z : ⊥ = omega arith in z)
-action_reads l (suc d) h t rest at n m = header_reads d 1 action-tag (l ∷ []) rest at n (number_tag action-tag at) ∙ rw (T_true (is_label l) t, lt-ltb n action_limit (omega arith))
+action_reads l (suc d) h t rest at n m = header_reads d 1 action_tag (l ∷ []) rest at n (number_tag action_tag at) ∙ rw (T_true (is_label l) t, lt-ltb n action_limit (omega arith))
 
 built_reads : (o : Operator) (es : Operands (arity o)) → Each Reads (arity o) es → Reads (built o es)
 built_reads o es h zero g t rest at n m = absurd (let z : ⊥ = omega (arith, built_depth o es) in z)

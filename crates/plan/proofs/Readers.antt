@@ -19,7 +19,7 @@ use Rattle.plan.specs.inner.Fields.{all_nodes, all_rows, with_row, field_with, I
 use Rattle.plan.specs.declared.Head.{Head}
 use Rattle.plan.specs.declared.Head.TheVariants as head
 use Rattle.plan.specs.declared.FieldRead.{FieldRead}
-use Rattle.plan.specs.declared.FieldRead.TheVariants as field-read
+use Rattle.plan.specs.declared.FieldRead.TheVariants as field_read
 use Rattle.plan.specs.declared.OperandsRead.{OperandsRead}
 use Rattle.plan.specs.declared.OperandsRead.TheVariants as operands_read
 use Rattle.plan.proofs.ReadBack.{read_field_with}
@@ -54,16 +54,16 @@ a_level (suc d) s at n e = rw sub-one (read_field_with d s at n)
 -- the ways out of the reader of a field
 
 module _ (d : ℕ) (s : List ℕ) (at n node : ℕ) (t t' : List ℕ) where
-  pub field_too_deep : d ≡ 0 → FieldIs (read_field d s at n) (field-read.Refused too_deep at) node n at t t'
+  pub field_too_deep : d ≡ 0 → FieldIs (read_field d s at n) (field_read.Refused too_deep at) node n at t t'
   field_too_deep h = rw (no_level d s at n h) refl
 
   module _ (r : Head) (h : d ≡ 0 → ⊥) (i : HeadIs r s at n (λ read. field_with read s at n)) where
-    pub field_refused : (k c : ℕ) → r ≡ head.Refused k c → FieldIs (read_field d s at n) (field-read.Refused k c) node n at t t'
+    pub field_refused : (k c : ℕ) → r ≡ head.Refused k c → FieldIs (read_field d s at n) (field_read.Refused k c) node n at t t'
     field_refused k c e =
         let w : HeadIs (head.Refused k c) s at n (λ read. field_with read s at n) = rw e at i in
         rw (a_level d s at n h, w (read_field (d - 1))) refl
 
-    pub field_action : (l : ℕ) → r ≡ head.Action l → t' ≡ with_row t (6 * node) 1 l 0 (node + 1) n at → FieldIs (read_field d s at n) (field-read.Read 4 (node + 1) (n + 1)) node n at t t'
+    pub field_action : (l : ℕ) → r ≡ head.Action l → t' ≡ with_row t (6 * node) 1 l 0 (node + 1) n at → FieldIs (read_field d s at n) (field_read.Read 4 (node + 1) (n + 1)) node n at t t'
     unfolding node_count nodes
     field_action l e p =
         let w : HeadIs (head.Action l) s at n (λ read. field_with read s at n) = rw e at i in
@@ -73,13 +73,13 @@ module _ (d : ℕ) (s : List ℕ) (at n node : ℕ) (t t' : List ℕ) where
 
 module _ (tag byte m start len : ℕ) (s : List ℕ) (at n : ℕ) (f : Reader → Answer Part) (w : IsOperator tag byte m start len s at n f) (node : ℕ) (t t' : List ℕ) where
   operator_refused : (q : Answer (Parts m)) (k c : ℕ) → OperandsAre m q (operands_read.Refused k c) (node + 1) n (at + start) t t'
-      → FieldIs (q >>= λ (p : Parts m). good (record { expr = w.built p.operands; bytes = start + len; so_far = p.so_far })) (field-read.Refused k c) node n at t t'
+      → FieldIs (q >>= λ (p : Parts m). good (record { expr = w.built p.operands; bytes = start + len; so_far = p.so_far })) (field_read.Refused k c) node n at t t'
   operator_refused (good p) k c i = let z = i.0 in clash (cc)
   operator_refused (refused k' c') k c i = cc
 
   operator_read : (q : Answer (Parts m)) (next b : ℕ) (t'' : List ℕ) → OperandsAre m q (operands_read.Read next b) (node + 1) n (at + start) t t'
       → t'' ≡ with_row t' (6 * node) tag byte m next n at
-      → FieldIs (q >>= λ (p : Parts m). good (record { expr = w.built p.operands; bytes = start + len; so_far = p.so_far })) (field-read.Read (start + len) next b) node n at t t''
+      → FieldIs (q >>= λ (p : Parts m). good (record { expr = w.built p.operands; bytes = start + len; so_far = p.so_far })) (field_read.Read (start + len) next b) node n at t t''
   operator_read (refused k c) next b t'' i e = clash (cc)
   operator_read (good p) next b t'' i e =
       let es = p.operands in
@@ -100,14 +100,14 @@ module _ (d : ℕ) (s : List ℕ) (at n node : ℕ) (t t' : List ℕ) (r : Head)
   inside : Answer (Parts m)
   inside = read_operands (read_field (d - 1)) m (take len (drop start s)) (at + start) n
 
-  pub field_operands_refused : (k c : ℕ) → r' ≡ operands_read.Refused k c → FieldIs (read_field d s at n) (field-read.Refused k c) node n at t t'
+  pub field_operands_refused : (k c : ℕ) → r' ≡ operands_read.Refused k c → FieldIs (read_field d s at n) (field_read.Refused k c) node n at t t'
   unfolding inside
   field_operands_refused k c g =
       rw (a_level d s at n h, is_operator.reads (read_field (d - 1)))
       (operator_refused tag byte m start len s at n (λ read. field_with read s at n) is_operator node t t' inside k c (rw (g, add-sub_cancel_left start len) at o))
 
   pub field_operator : (next b : ℕ) (t'' : List ℕ) → r' ≡ operands_read.Read next b → t'' ≡ with_row t' (6 * node) tag byte m next n at
-      → FieldIs (read_field d s at n) (field-read.Read (start + len) next b) node n at t t''
+      → FieldIs (read_field d s at n) (field_read.Read (start + len) next b) node n at t t''
   unfolding inside
   field_operator next b t'' g p =
       rw (a_level d s at n h, is_operator.reads (read_field (d - 1)))
@@ -140,7 +140,7 @@ operands_missing read (suc k) (x ∷ s) at n node t t' h i = absurd (let z : ⊥
 abbrev with_rest : (k : ℕ) → Answer Part → (ℕ → ℕ → Answer (Parts k)) → Answer (Parts (suc k))
 with_rest k f rest = f >>= λ (p : Part). (rest p.bytes p.so_far >>= λ (q : Parts k). good (record { operands = (p.expr, q.operands); so_far = q.so_far }))
 
-operand_refused : (k : ℕ) (f : Answer Part) (rest : ℕ → ℕ → Answer (Parts k)) (a c node n at : ℕ) (t t' : List ℕ) → FieldIs f (field-read.Refused a c) node n at t t'
+operand_refused : (k : ℕ) (f : Answer Part) (rest : ℕ → ℕ → Answer (Parts k)) (a c node n at : ℕ) (t t' : List ℕ) → FieldIs f (field_read.Refused a c) node n at t t'
     → OperandsAre (suc k) (with_rest k f rest) (operands_read.Refused a c) node n at t t'
 operand_refused k (good p) rest a c node n at t t' i = let z = i.0 in clash (cc)
 operand_refused k (refused a' c') rest a c node n at t t' i = cc
@@ -157,7 +157,7 @@ rest_read k p (good o) r node n at t t' t'' eb es w i = (
 
 operand_read : (k : ℕ) (f : Answer Part) (rest : ℕ → ℕ → Answer (Parts k)) (r : OperandsRead) (used next b node n at : ℕ) (t t' t'' : List ℕ)
     → ((p : Part) → f ≡ good p → (p.bytes ≡ bytes p.expr) × (p.so_far ≡ n + actions p.expr))
-    → FieldIs f (field-read.Read used next b) node n at t t' → OperandsAre k (rest used b) r next b (at + used) t' t'' → OperandsAre (suc k) (with_rest k f rest) r node n at t t''
+    → FieldIs f (field_read.Read used next b) node n at t t' → OperandsAre k (rest used b) r next b (at + used) t' t'' → OperandsAre (suc k) (with_rest k f rest) r node n at t t''
 operand_read k (refused a c) rest r used next b node n at t t' t'' h i o = clash (cc)
 operand_read k (good p) rest r used next b node n at t t' t'' h i o =
     let z = i.0 in
@@ -168,7 +168,7 @@ operand_read k (good p) rest r used next b node n at t t' t'' h i o =
     rest_read k p (rest p.bytes p.so_far) r node n at t t' t'' c s i.1 (rw (eu, eb, en) at o)
 
 operands_refused : (read : Reader) (k : ℕ) (s : List ℕ) (at n node : ℕ) (t t' : List ℕ) (r : FieldRead) (a c : ℕ) → (k ≡ 0 → ⊥) → (length s ≡ 0 → ⊥)
-    → FieldIs (read s at n) r node n at t t' → r ≡ field-read.Refused a c → OperandsAre k (read_operands read k s at n) (operands_read.Refused a c) node n at t t'
+    → FieldIs (read s at n) r node n at t t' → r ≡ field_read.Refused a c → OperandsAre k (read_operands read k s at n) (operands_read.Refused a c) node n at t t'
 unfolding read_operands
 operands_refused read zero s at n node t t' r a c h i o e = absurd (h refl)
 operands_refused read (suc k) [] at n node t t' r a c h i o e = absurd (i refl)
@@ -176,7 +176,7 @@ operands_refused read (suc k) (x ∷ s) at n node t t' r a c h i o e =
     operand_refused k (read (x ∷ s) at n) (λ u b. read_operands read k (drop u (x ∷ s)) (at + u) b) a c node n at t t' (rw e at o)
 
 operands_more : (d k : ℕ) (s : List ℕ) (at n node : ℕ) (t t' t'' : List ℕ) (r : FieldRead) (used next b : ℕ) (r' : OperandsRead) → (k ≡ 0 → ⊥) → (length s ≡ 0 → ⊥)
-    → FieldIs (read_field d s at n) r node n at t t' → r ≡ field-read.Read used next b
+    → FieldIs (read_field d s at n) r node n at t t' → r ≡ field_read.Read used next b
     → OperandsAre (k - 1) (read_operands (read_field d) (k - 1) (drop used s) (at + used) b) r' next b (at + used) t' t''
     → OperandsAre k (read_operands (read_field d) k s at n) r' node n at t t''
 unfolding read_operands
@@ -222,12 +222,12 @@ module _ {d k : ℕ} {s : List ℕ} {at n node : ℕ} {t t' : List ℕ} {due fro
     field_there : FieldIs (read_field d (drop from s) (at + from) so_far) r next so_far (at + from) t' t''
     field_there = rw (rest_whole from s) at f
 
-    pub one_refused : (a c : ℕ) → r ≡ field-read.Refused a c → OperandsAre k (read_operands (read_field d) k s at n) (operands_read.Refused a c) node n at t t''
+    pub one_refused : (a c : ℕ) → r ≡ field_read.Refused a c → OperandsAre k (read_operands (read_field d) k s at n) (operands_read.Refused a c) node n at t t''
     one_refused a c e = l.rest _ t'' (operands_refused (read_field d) due (drop from s) (at + from) so_far next t' t'' r a c (λ z. omega arith) (some_left i) field_there e)
 
-    pub one_read : (used m b : ℕ) → r ≡ field-read.Read used m b → FieldFits r (length part) next → length t'' ≡ length t' → Left d k s at n node t t'' (due - 1) (from + used) m b
+    pub one_read : (used m b : ℕ) → r ≡ field_read.Read used m b → FieldFits r (length part) next → length t'' ≡ length t' → Left d k s at n node t t'' (due - 1) (from + used) m b
     one_read used m b e g w =
-        let fits : FieldFits (field-read.Read used m b) (length part) next = rw e at g in
+        let fits : FieldFits (field_read.Read used m b) (length part) next = rw e at g in
         let long : length part ≡ length s - from = rest_length from s in
         record {
           inside = omega (arith, l.inside);

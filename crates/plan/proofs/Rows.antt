@@ -11,29 +11,29 @@ use Rattle.plan.specs.Loops.{bytes}
 use Rattle.plan.specs.Reading.{Operands}
 use Rattle.plan.specs.inner.Nodes.{Row, row, numbers, node_count, nodes}
 use Rattle.plan.specs.inner.Fields.{all_nodes, all_rows}
-use Rattle.plan.proofs.Operators.{Operator, sequence-of, choice-of, parallel-of, loop_of, scope_of, number, arity, own, built, Each, by_operators}
+use Rattle.plan.proofs.Operators.{Operator, sequence_of, choice_of, parallel_of, loop_of, scope_of, number, arity, own, built, Each, by_operators}
 
 abbrev pub own_byte : Operator → ℕ
-own_byte sequence-of = 0
-own_byte choice-of = 0
-own_byte parallel-of = 0
+own_byte sequence_of = 0
+own_byte choice_of = 0
+own_byte parallel_of = 0
 own_byte loop_of = 0
 own_byte (scope_of a) = a
 
 pub built_count : (o : Operator) (es : Operands (arity o)) → node_count (built o es) ≡ 1 + all_nodes (arity o) es
 unfolding node_count
-built_count sequence-of es = omega arith
-built_count choice-of es = omega arith
-built_count parallel-of es = omega arith
+built_count sequence_of es = omega arith
+built_count choice_of es = omega arith
+built_count parallel_of es = omega arith
 built_count loop_of es = omega arith
 built_count (scope_of a) es = omega arith
 
 pub built_rows : (o : Operator) (k i at : ℕ) (es : Operands (arity o))
     → nodes k i at (built o es) ≡ row (number o) (own_byte o) (arity o) (k + (1 + all_nodes (arity o) es)) i at ∷ all_rows (arity o) (k + 1) i (at + (3 + length (own o))) es
 unfolding nodes
-built_rows sequence-of k i at es = simp (append-nil, add-zero)
-built_rows choice-of k i at es = simp (append-nil, add-zero)
-built_rows parallel-of k i at es = simp (append-nil, add-zero)
+built_rows sequence_of k i at es = simp (append-nil, add-zero)
+built_rows choice_of k i at es = simp (append-nil, add-zero)
+built_rows parallel_of k i at es = simp (append-nil, add-zero)
 built_rows loop_of k i at es = simp (append-nil, add-zero)
 built_rows (scope_of a) k i at es = simp (append-nil, add-zero)
 

@@ -1,6 +1,5 @@
 -- Every scope byte of a plan that is read is at least 1, so that no scope takes away what is silent.
 -- Reading accepts scope bytes from 1 to 127 only.
-use Prim.Native.Nat.{ℕ, ◌≤◌}
 use mathlib.Core.Bool.{◌&&◌}
 use lib.Dec.{T, leb, leb→le}
 use Rattle.field.proofs.Tests.{and_parts}

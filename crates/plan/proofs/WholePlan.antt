@@ -56,9 +56,9 @@ one_read (good p) next b t t' h l i =
     let z = i.0 in
     let en : next ≡ 0 + (node_count E + 0) = cc in
     let eb : b ≡ p.so_far = cc in
-    let nodes-are : next ≡ node_count E = omega arith in
+    let nodes_are : next ≡ node_count E = omega arith in
     let actions_are : b ≡ actions E = omega (arith, h p refl) in
-    (ap₂ (λ (m a : ℕ). good (record { nodes = m; actions = a })) nodes-are actions_are, i.1 ∙ front_rows E t (omega arith))
+    (ap₂ (λ (m a : ℕ). good (record { nodes = m; actions = a })) nodes_are actions_are, i.1 ∙ front_rows E t (omega arith))
 
 -- the ways out
 

@@ -1,5 +1,5 @@
 -- 01, "Plan bytes", the table of fields read the other way: the bytes of an expression, and which expressions have bytes that are accepted.
-use Rattle.std.specs.Prelude.{ℕ, ◌+◌, max, ◌≤◌, List, [], ◌∷◌, ◌++◌, Bool, true, false, ◌&&◌, length, leb}
+use Rattle.std.specs.Prelude.{ℕ, ◌+◌, max, List, [], ◌∷◌, ◌++◌, Bool, ◌&&◌, length, leb}
 use Rattle.field.specs.Limits.{plan_limit, depth_limit, action_limit}
 use Rattle.field.specs.Field.{field}
 use Rattle.algebra.specs.Expr.{Expr, action, sequence, choice, parallel, loop, scope, actions}

@@ -1,5 +1,5 @@
 -- 01, "Refusal numbers", 10: "loop body not exclusive", which carries "first such loop".
-use Rattle.std.specs.Prelude.{ℕ, ◌+◌, List, [], ◌∷◌, ◌++◌, Bool, true, false, cond, ◌&&◌}
+use Rattle.std.specs.Prelude.{ℕ, ◌+◌, List, [], ◌∷◌, ◌++◌, cond}
 use Rattle.field.specs.Refusals.{body_not_exclusive}
 use Rattle.field.specs.Answer.{Answer, good, refused}
 use Rattle.algebra.specs.Expr.{Expr, action, sequence, choice, parallel, loop, scope}

@@ -1,5 +1,5 @@
 -- 01, "Plan bytes" and "Refusal numbers": the expression that plan bytes spell, or the first refusal with its offset.
-use Rattle.std.specs.Prelude.{ℕ, zero, suc, ◌+◌, ◌-◌, List, [], ◌∷◌, Bool, true, false, cond, not, ◌&&◌, ◌||◌, length, get_or, drop, eqb, leb, ltb}
+use Rattle.std.specs.Prelude.{ℕ, zero, suc, ◌+◌, ◌-◌, List, [], ◌∷◌, Bool, cond, ◌&&◌, ◌||◌, length, get_or, drop, eqb, leb, ltb}
 use Rattle.field.specs.Limits.{plan_limit, depth_limit, action_limit}
 use Rattle.field.specs.Refusals.{plan_too_long, operand_due, too_deep, field_cut, unknown_tag, wrong_body, wrong_label, too_many_actions, bytes_after}
 use Rattle.field.specs.Answer.{Answer, good, refused, ◌>>=◌, ◌>>◌, check}
@@ -16,17 +16,17 @@ is_name a = leb 1 a && leb a 127
 
 -- The six tags of the table.
 pub data Tag : Type 0 where
-  action-tag sequence-tag choice-tag parallel-tag loop-tag scope-tag : Tag
+  action_tag sequence_tag choice_tag parallel_tag loop_tag scope_tag : Tag
 
 -- "unknown tag", with the field's offset.
 unfoldable pub tag_spelt : ℕ → ℕ → Answer Tag
 tag_spelt t at =
-    cond (eqb t 1) (good action-tag)
-    (cond (eqb t 2) (good sequence-tag)
-    (cond (eqb t 3) (good choice-tag)
-    (cond (eqb t 4) (good parallel-tag)
-    (cond (eqb t 5) (good loop-tag)
-    (cond (eqb t 6) (good scope-tag)
+    cond (eqb t 1) (good action_tag)
+    (cond (eqb t 2) (good sequence_tag)
+    (cond (eqb t 3) (good choice_tag)
+    (cond (eqb t 4) (good parallel_tag)
+    (cond (eqb t 5) (good loop_tag)
+    (cond (eqb t 6) (good scope_tag)
     (refused unknown_tag at))))))
 
 -- What is read of a field: its expression, the bytes that it takes, and the actions so far.
@@ -62,24 +62,24 @@ read_operands read (suc k) (x ∷ s) at n = do
 -- The body of a field with that tag. "An operand is read from its enclosing body only, handed on as that part."
 unfoldable pub read_body : Reader → Tag → List ℕ → ℕ → ℕ → ℕ → Answer Part
 unfolding read_operands
-read_body read action-tag body at bytes n = do
+read_body read action_tag body at bytes n = do
   check (eqb (length body) 1) wrong_body at
   check (is_label (get_or body 0 0)) wrong_label at
   check (ltb n action_limit) too_many_actions at
   good (record { expr = action (get_or body 0 0); bytes = bytes; so_far = n + 1 })
-read_body read sequence-tag body at bytes n = do
+read_body read sequence_tag body at bytes n = do
   p ← read_operands read 2 body (at + 3) n
   good (record { expr = sequence p.operands.0 p.operands.1.0; bytes = bytes; so_far = p.so_far })
-read_body read choice-tag body at bytes n = do
+read_body read choice_tag body at bytes n = do
   p ← read_operands read 2 body (at + 3) n
   good (record { expr = choice p.operands.0 p.operands.1.0; bytes = bytes; so_far = p.so_far })
-read_body read parallel-tag body at bytes n = do
+read_body read parallel_tag body at bytes n = do
   p ← read_operands read 2 body (at + 3) n
   good (record { expr = parallel p.operands.0 p.operands.1.0; bytes = bytes; so_far = p.so_far })
-read_body read loop-tag body at bytes n = do
+read_body read loop_tag body at bytes n = do
   p ← read_operands read 3 body (at + 3) n
   good (record { expr = loop p.operands.0 p.operands.1.0 p.operands.1.1.0; bytes = bytes; so_far = p.so_far })
-read_body read scope-tag body at bytes n = do
+read_body read scope_tag body at bytes n = do
   check (leb 1 (length body)) wrong_body at
   check (is_name (get_or body 0 0)) wrong_label at
   p ← read_operands read 1 (drop 1 body) (at + 4) n

@@ -1,11 +1,13 @@
 // Reads the bytes of a plan into a table of nodes, a row for each field.
+#![tactic(auto)]
+
 pub mod exclusive;
 pub mod tags;
 
 ghost use Rattle.std.specs.Prelude.{◌≡◌, ◌+◌, ◌*◌, ◌≤◌, length};
 ghost use Rattle.field.specs.Limits.{plan_limit};
 ghost use Rattle.field.specs.Field.{length_of, body_of};
-ghost use Rattle.plan.specs.Reading.{action-tag, scope-tag, read_body, read_operands, read_field, read_plan};
+ghost use Rattle.plan.specs.Reading.{action_tag, scope_tag, read_body, read_operands, read_field, read_plan};
 ghost use Rattle.plan.specs.inner.Says.{says, read_sizes, RowsAre};
 ghost use Rattle.plan.specs.inner.Fields.{HeadFits, HeadIs, Inside, field_with, RowFits, with_row, FieldFits, FieldIs, OperandsFit, OperandsAre, Room};
 
@@ -68,7 +70,7 @@ pub enum PlanRead {
 fn look_action(s: &[u8], at: usize, len: usize, actions: usize) -> Head
     requires { Inside s.now len }
     ensures fits { HeadFits result (length s.now) actions }
-    ensures is { HeadIs result s.now at actions (λ read. read_body read action-tag (body_of s.now) at (3 + length_of s.now) actions) }
+    ensures is { HeadIs result s.now at actions (λ read. read_body read action_tag (body_of s.now) at (3 + length_of s.now) actions) }
 {
     if len != 1 {
         return Head::Refused(field::WRONG_BODY, at);
@@ -87,7 +89,7 @@ fn look_action(s: &[u8], at: usize, len: usize, actions: usize) -> Head
 fn look_scope(s: &[u8], at: usize, len: usize, actions: usize) -> Head
     requires { Inside s.now len }
     ensures fits { HeadFits result (length s.now) actions }
-    ensures is { HeadIs result s.now at actions (λ read. read_body read scope-tag (body_of s.now) at (3 + length_of s.now) actions) }
+    ensures is { HeadIs result s.now at actions (λ read. read_body read scope_tag (body_of s.now) at (3 + length_of s.now) actions) }
 {
     if len == 0 {
         return Head::Refused(field::WRONG_BODY, at);

@@ -9,7 +9,7 @@ use lib.Seq.{drop-drop}
 use Rattle.form.specs.Form.{read_items}
 use Rattle.form.specs.inner.FormSays.{items_say, HeadFits}
 use Rattle.form.specs.declared.HeadAnswer.{HeadAnswer}
-use Rattle.form.specs.declared.HeadAnswer.TheVariants as head-answer
+use Rattle.form.specs.declared.HeadAnswer.TheVariants as head_answer
 use Rattle.form.specs.declared.ItemsAnswer.{ItemsAnswer}
 use Rattle.form.proofs.StepForms.{head_fits}
 
@@ -23,5 +23,5 @@ module _ (at : ℕ) (s : List ℕ) (n : ℕ) where
       → items_say at q firsts seconds ≡ read_items at 0 0 (take (3 + n - 3) (drop 3 (drop at s)))
   items_there q firsts seconds e = e ∙ ap (read_items at 0 0) body_there
 
-  pub step_inside : (r : HeadAnswer) → HeadFits (length (drop at s)) r → r ≡ head-answer.Body n → at ≤ length s → at + 3 + n ≤ length s
+  pub step_inside : (r : HeadAnswer) → HeadFits (length (drop at s)) r → r ≡ head_answer.Body n → at ≤ length s → at + 3 + n ≤ length s
   step_inside r f e inside = omega (arith, head_fits (length (drop at s)) n r f e, length-drop at s)

@@ -1,5 +1,7 @@
 // 01, "Run records": "Records are read through a reader that keeps the record's bytes and its place together." The functions over the
 // reader take it apart or make it anew; the work is `head_at`'s, on the bytes and the place. Other callers use `head_of` and `step_at`.
+#![tactic(auto)]
+
 ghost use Rattle.std.specs.Prelude.{◌≡◌, ◌+◌, ◌≤◌, length, drop};
 ghost use Rattle.form.specs.Form.{read_step};
 ghost use Rattle.form.specs.inner.FormSays.{head_says, HeadFits, step_head, step_says, StepFits};

@@ -10,7 +10,7 @@ use Rattle.field.specs.Refusals.{record_field_cut, wrong_tag, wrong_length, not_
 use Rattle.field.specs.Answer.{Answer, good, refused, ◌>>=◌, ◌>>◌, check}
 use Rattle.field.specs.Field.{tag_of, length_of, body_of}
 use Rattle.algebra.specs.Item.{Item, first}
-use Rattle.form.specs.Form.{check_header, one_tag, two-tag, item_tag, action_count, item_spelt, read_item, read_items, StepRead, read_step, Recorded, ends, step, no_step, one_more, read_steps}
+use Rattle.form.specs.Form.{check_header, one_tag, two_tag, item_tag, action_count, item_spelt, read_item, read_items, StepRead, read_step, Recorded, ends, step, no_step, one_more, read_steps}
 use Rattle.replay.specs.Recorded.{After, now, later}
 
 abbrev pub FormNumber : ℕ → Type 0
@@ -49,7 +49,7 @@ tag_form : (at t : ℕ) → ByForm (item_tag at t)
 unfolding item_tag
 tag_form at t = go (eqb t 0x21) (eqb t 0x22)
   where
-    go : (a b : Bool) → ByForm (cond a (good one_tag) (cond b (good two-tag) (refused wrong_tag at)))
+    go : (a b : Bool) → ByForm (cond a (good one_tag) (cond b (good two_tag) (refused wrong_tag at)))
     go true b = tt
     go false true = tt
     go false false = tag

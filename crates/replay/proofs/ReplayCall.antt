@@ -25,55 +25,55 @@ use Rattle.replay.specs.Replay.{Started, replayed, start, replay}
 use Rattle.replay.specs.inner.OnANet.{start_on, RunIs, ReplayIs, Leaves}
 
 -- A run from what is the entry marking.
-pub runs_from_entries : (N : Net) (run-record marking : List ℕ) (r : Ran) (exit : List ℕ) → marking ≡ entry_marking N
-    → (ran_says r ≡ (run N 0 marking (read_steps 0 0 run-record)).verdict) × (exit ≡ (run N 0 marking (read_steps 0 0 run-record)).marking) → RunIs N run-record r exit
-runs_from_entries N run-record marking r exit e i = record {
-  verdict = i.0 ∙ ap (λ m. (run N 0 m (read_steps 0 0 run-record)).verdict) e;
-  marking = i.1 ∙ ap (λ m. (run N 0 m (read_steps 0 0 run-record)).marking) e;
+pub runs_from_entries : (N : Net) (run_record marking : List ℕ) (r : Ran) (exit : List ℕ) → marking ≡ entry_marking N
+    → (ran_says r ≡ (run N 0 marking (read_steps 0 0 run_record)).verdict) × (exit ≡ (run N 0 marking (read_steps 0 0 run_record)).marking) → RunIs N run_record r exit
+runs_from_entries N run_record marking r exit e i = record {
+  verdict = i.0 ∙ ap (λ m. (run N 0 m (read_steps 0 0 run_record)).verdict) e;
+  marking = i.1 ∙ ap (λ m. (run N 0 m (read_steps 0 0 run_record)).marking) e;
 }
 
 pub reaches : (places : ℕ) (buffer : List ℕ) (room : Bool) → check_room places buffer ≡ check room no_marking 0 → room ≡ true → places ≤ length buffer
 reaches places buffer room tells h = room_passed places buffer (tells ∙ ap (λ b. check b no_marking 0) h)
 
 -- What replay on a net starts with is known: so is the answer.
-started_as : (N : Net) (run-record buffer : List ℕ) (s : Answer Started) (r : Ran) (exit : List ℕ) → start_on N run-record buffer ≡ s
-    → ran_says r ≡ (replayed buffer s).verdict → exit ≡ (replayed buffer s).buffer → ReplayIs N run-record buffer r exit
-started_as N run-record buffer s r exit e v b = record {
+started_as : (N : Net) (run_record buffer : List ℕ) (s : Answer Started) (r : Ran) (exit : List ℕ) → start_on N run_record buffer ≡ s
+    → ran_says r ≡ (replayed buffer s).verdict → exit ≡ (replayed buffer s).buffer → ReplayIs N run_record buffer r exit
+started_as N run_record buffer s r exit e v b = record {
   verdict = v ∙ ap (λ a. (replayed buffer a).verdict) (sym e);
   buffer_is = b ∙ ap (λ a. (replayed buffer a).buffer) (sym e);
 }
 
-module _ (N : Net) (places : ℕ) (its_places : place_count N ≡ places) (run-record buffer : List ℕ) (room : Bool) (tells : check_room places buffer ≡ check room no_marking 0) where
-  start_tested : start_on N run-record buffer ≡ (check room no_marking 0 >> (read_record run-record >>= λ R. good (record { net = N; recorded = R })))
-  start_tested = ap (λ a. a >> (read_record run-record >>= λ R. good (record { net = N; recorded = R }))) (ap (λ n. check_room n buffer) its_places ∙ tells)
+module _ (N : Net) (places : ℕ) (its_places : place_count N ≡ places) (run_record buffer : List ℕ) (room : Bool) (tells : check_room places buffer ≡ check room no_marking 0) where
+  start_tested : start_on N run_record buffer ≡ (check room no_marking 0 >> (read_record run_record >>= λ R. good (record { net = N; recorded = R })))
+  start_tested = ap (λ a. a >> (read_record run_record >>= λ R. good (record { net = N; recorded = R }))) (ap (λ n. check_room n buffer) its_places ∙ tells)
 
   -- 35
-  pub no_room : room ≡ false → ReplayIs N run-record buffer (Refused no_marking 0 0) buffer
-  no_room h = started_as N run-record buffer (refused no_marking 0) (Refused no_marking 0 0) buffer
-      (start_tested ∙ ap (λ b. check b no_marking 0 >> (read_record run-record >>= λ R. good (record { net = N; recorded = R }))) h) refl refl
+  pub no_room : room ≡ false → ReplayIs N run_record buffer (Refused no_marking 0 0) buffer
+  no_room h = started_as N run_record buffer (refused no_marking 0) (Refused no_marking 0 0) buffer
+      (start_tested ∙ ap (λ b. check b no_marking 0 >> (read_record run_record >>= λ R. good (record { net = N; recorded = R }))) h) refl refl
 
-  start_passed : room ≡ true → start_on N run-record buffer ≡ (read_record run-record >>= λ R. good (record { net = N; recorded = R }))
-  start_passed h = start_tested ∙ ap (λ b. check b no_marking 0 >> (read_record run-record >>= λ R. good (record { net = N; recorded = R }))) h
+  start_passed : room ≡ true → start_on N run_record buffer ≡ (read_record run_record >>= λ R. good (record { net = N; recorded = R }))
+  start_passed h = start_tested ∙ ap (λ b. check b no_marking 0 >> (read_record run_record >>= λ R. good (record { net = N; recorded = R }))) h
 
   -- 20
-  pub too_long : room ≡ true → record_limit < length run-record → ReplayIs N run-record buffer (Refused record_too_long 0 0) buffer
+  pub too_long : room ≡ true → record_limit < length run_record → ReplayIs N run_record buffer (Refused record_too_long 0 0) buffer
   unfolding read_record
-  too_long h l = started_as N run-record buffer (refused record_too_long 0) (Refused record_too_long 0 0) buffer
-      (start_passed h ∙ ap (λ b. check b record_too_long 0 >> good (read_steps 0 0 run-record) >>= λ R. good (record { net = N; recorded = R })) (lt-leb (length run-record) record_limit l)) refl refl
+  too_long h l = started_as N run_record buffer (refused record_too_long 0) (Refused record_too_long 0 0) buffer
+      (start_passed h ∙ ap (λ b. check b record_too_long 0 >> good (read_steps 0 0 run_record) >>= λ R. good (record { net = N; recorded = R })) (lt-leb (length run_record) record_limit l)) refl refl
 
   -- the run
-  pub runs : room ≡ true → length run-record ≤ record_limit → (r : Ran) (exit : List ℕ) → RunIs N run-record r exit → ReplayIs N run-record buffer r (exit ++ drop places buffer)
+  pub runs : room ≡ true → length run_record ≤ record_limit → (r : Ran) (exit : List ℕ) → RunIs N run_record r exit → ReplayIs N run_record buffer r (exit ++ drop places buffer)
   unfolding read_record
-  runs h l r exit i = started_as N run-record buffer (good (record { net = N; recorded = read_steps 0 0 run-record })) r (exit ++ drop places buffer)
-      (start_passed h ∙ ap (λ b. check b record_too_long 0 >> good (read_steps 0 0 run-record) >>= λ R. good (record { net = N; recorded = R })) (le-leb (length run-record) record_limit l))
+  runs h l r exit i = started_as N run_record buffer (good (record { net = N; recorded = read_steps 0 0 run_record })) r (exit ++ drop places buffer)
+      (start_passed h ∙ ap (λ b. check b record_too_long 0 >> good (read_steps 0 0 run_record) >>= λ R. good (record { net = N; recorded = R })) (le-leb (length run_record) record_limit l))
       i.verdict (ap₂ (λ m n. m ++ drop n buffer) i.marking (sym its_places))
 
 -- A refused plan.
-pub plan_refused : (plan run-record buffer : List ℕ) (n c : ℕ) → accept plan ≡ refused n c → Leaves plan run-record buffer (Refused n c 0) buffer
+pub plan_refused : (plan run_record buffer : List ℕ) (n c : ℕ) → accept plan ≡ refused n c → Leaves plan run_record buffer (Refused n c 0) buffer
 unfolding replay start
-plan_refused plan run-record buffer n c a = record { verdict = rw a refl; buffer_is = rw a refl }
+plan_refused plan run_record buffer n c a = record { verdict = rw a refl; buffer_is = rw a refl }
 
 -- A plan whose net was made.
-pub plan_made : (plan run-record buffer : List ℕ) (E : Expr) → accept plan ≡ good E → (r : Ran) (exit : List ℕ) → ReplayIs (net_of E) run-record buffer r exit → Leaves plan run-record buffer r exit
+pub plan_made : (plan run_record buffer : List ℕ) (E : Expr) → accept plan ≡ good E → (r : Ran) (exit : List ℕ) → ReplayIs (net_of E) run_record buffer r exit → Leaves plan run_record buffer r exit
 unfolding replay start
-plan_made plan run-record buffer E p r exit i = record { verdict = rw p i.verdict; buffer_is = rw p i.buffer_is }
+plan_made plan run_record buffer E p r exit i = record { verdict = rw p i.verdict; buffer_is = rw p i.buffer_is }

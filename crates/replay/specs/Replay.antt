@@ -17,10 +17,10 @@ pub record Started : Type 0 where
 
 unfoldable pub start : List ℕ → List ℕ → List ℕ → Answer Started
 unfolding accept check_room net_of read_record
-start plan run-record buffer = do
+start plan run_record buffer = do
   E ← accept plan
   check_room (place_count (net_of E)) buffer
-  R ← read_record run-record
+  R ← read_record run_record
   good (record { net = net_of E; recorded = R })
 
 pub record Replayed : Type 0 where
@@ -36,4 +36,4 @@ replayed buffer (refused n c) = record { verdict = refusal n c 0; buffer = buffe
 
 unfoldable pub replay : List ℕ → List ℕ → List ℕ → Replayed
 unfolding start run entry_marking
-replay plan run-record buffer = replayed buffer (start plan run-record buffer)
+replay plan run_record buffer = replayed buffer (start plan run_record buffer)

@@ -1,4 +1,6 @@
 // 01: "Replay takes plan, record and marking buffer: 1 to 13, then 35 (short only), then 20, before anything is written and with 0 steps told."
+#![tactic(auto)]
+
 ghost use Rattle.std.specs.Prelude.{◌≡◌, List, ◌++◌, ℕ, ◌+◌, ◌*◌, ◌-◌, ◌≤◌, length, replicate};
 ghost use Rattle.field.specs.Limits.{plan_limit};
 ghost use Rattle.algebra.specs.Net.{Net};

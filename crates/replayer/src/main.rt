@@ -1,4 +1,6 @@
 // 01, "Known nets": replays the file `record` against the file `plan`, and writes one line.
+#![tactic(auto)]
+
 use console::Input;
 use run::Ran;
 

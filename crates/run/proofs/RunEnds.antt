@@ -31,25 +31,25 @@ step_within left q m m' fits bytes e = subst (λ (x : Taken). TakenFits left x m
 abbrev pub Same : List ℕ → List ℕ → ℕ → ℕ → List ℕ → Recorded → ℕ → List ℕ → Recorded → Type 0
 Same rows arcs transitions steps₀ m₀ R₀ steps m R = (N : Net) → N.transitions ≡ transitions_within rows arcs transitions → run N steps₀ m₀ R₀ ≡ run N steps m R
 
-module _ (rows arcs : List ℕ) (transitions exits-from : ℕ) (steps₀ : ℕ) (m₀ : List ℕ) (R₀ : Recorded) (bytes_of : List ℕ) (at steps : ℕ) (m : List ℕ)
+module _ (rows arcs : List ℕ) (transitions exits_from : ℕ) (steps₀ : ℕ) (m₀ : List ℕ) (R₀ : Recorded) (bytes_of : List ℕ) (at steps : ℕ) (m : List ℕ)
     (same : Same rows arcs transitions steps₀ m₀ R₀ steps m (read_steps at 0 (drop at bytes_of))) where
   -- The end of the record.
-  module _ (h : length bytes_of ≤ at) (b : Bool) (e : b ≡ all (λ x. leb 1 x) (drop exits-from m)) where
-    exits : (N : Net) → N.entries + N.internals ≡ exits-from → exits_marked N m ≡ b
+  module _ (h : length bytes_of ≤ at) (b : Bool) (e : b ≡ all (λ x. leb 1 x) (drop exits_from m)) where
+    exits : (N : Net) → N.entries + N.internals ≡ exits_from → exits_marked N m ≡ b
     unfolding exits_marked
     exits N f = ap (λ (n : ℕ). all (λ x. leb 1 x) (drop n m)) f ∙ sym e
 
-    pub ends_finished : b ≡ true → Ends (Finished steps) m rows arcs transitions exits-from steps₀ m₀ R₀
+    pub ends_finished : b ≡ true → Ends (Finished steps) m rows arcs transitions exits_from steps₀ m₀ R₀
     unfolding run read_steps
     ends_finished t N g f = rw (same N g, drop_of_length-le bytes_of h, exits N f, t) (refl, refl)
 
-    pub ends_unfinished : b ≡ false → Ends (Unfinished steps) m rows arcs transitions exits-from steps₀ m₀ R₀
+    pub ends_unfinished : b ≡ false → Ends (Unfinished steps) m rows arcs transitions exits_from steps₀ m₀ R₀
     unfolding run read_steps
     ends_unfinished t N g f = rw (same N g, drop_of_length-le bytes_of h, exits N f, t) (refl, refl)
 
   -- A step's answer.
   module _ (h : at < length bytes_of) (q : Taken) (m' : List ℕ) (says : taken_says q m' ≡ take_step (transitions_within rows arcs transitions) m at (drop at bytes_of)) where
-    pub ends_refused : (left n c : ℕ) → TakenFits left q m m' → q ≡ taken.Refused n c → Ends (Refused n c steps) m' rows arcs transitions exits-from steps₀ m₀ R₀
+    pub ends_refused : (left n c : ℕ) → TakenFits left q m m' → q ≡ taken.Refused n c → Ends (Refused n c steps) m' rows arcs transitions exits_from steps₀ m₀ R₀
     ends_refused left n c fits e N g f =
         let stays : m' ≡ m = subst (λ (a : Taken). TakenFits left a m m') e fits in
         let no : refused n c ≡ take_step (transitions_within rows arcs transitions) m at (drop at bytes_of) = sym (ap (λ (a : Taken). taken_says a m') e) ∙ says in

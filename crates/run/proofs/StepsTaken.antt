@@ -20,11 +20,11 @@ use Rattle.moving.specs.inner.Moves.{told, kept, Moves}
 use Rattle.moving.specs.declared.Fired.{Fired}
 use Rattle.moving.specs.declared.Fired.TheVariants as fired
 use Rattle.form.specs.declared.StepAnswer.{StepAnswer}
-use Rattle.form.specs.declared.StepAnswer.TheVariants as step-answer
+use Rattle.form.specs.declared.StepAnswer.TheVariants as step_answer
 use Rattle.run.specs.inner.Steps.{StepTaken, step_of, take_step}
 
 -- The step that code has read lies in the bytes, and the two lists hold its items.
-pub step_fits : (left items bytes : ℕ) (q : StepAnswer) (firsts seconds : List ℕ) → StepFits left q firsts seconds → q ≡ step-answer.Step items bytes
+pub step_fits : (left items bytes : ℕ) (q : StepAnswer) (firsts seconds : List ℕ) → StepFits left q firsts seconds → q ≡ step_answer.Step items bytes
     → (1 ≤ bytes) × (bytes ≤ left) × (items ≤ 256) × (items ≤ length firsts) × (items ≤ length seconds) × Bytes items firsts
 step_fits left items bytes q firsts seconds f e = subst (λ (a : StepAnswer). StepFits left a firsts seconds) e f
 
@@ -37,10 +37,10 @@ module _ (net : List Transition) (m s : List ℕ) (at : ℕ) (q : StepAnswer) (f
   unfolding take_step
   read = ap rest says
 
-  pub no_step_taken : (n : ℕ) → q ≡ step-answer.Refused n → refused n at ≡ take_step net m at s
+  pub no_step_taken : (n : ℕ) → q ≡ step_answer.Refused n → refused n at ≡ take_step net m at s
   no_step_taken n e = sym (ap (λ (a : StepAnswer). rest (step_says at a firsts seconds)) e) ∙ read
 
-  module _ (items bytes : ℕ) (e : q ≡ step-answer.Step items bytes) (r : Fired) (m' : List ℕ) (moves : Moves r m m' (fire_items net m (items_in items firsts seconds))) where
+  module _ (items bytes : ℕ) (e : q ≡ step_answer.Step items bytes) (r : Fired) (m' : List ℕ) (moves : Moves r m m' (fire_items net m (items_in items firsts seconds))) where
     fires : (fire_items net m (items_in items firsts seconds) >>= (λ x. step_of bytes x)) ≡ take_step net m at s
     fires = sym (ap (λ (a : StepAnswer). rest (step_says at a firsts seconds)) e) ∙ read
 

@@ -39,7 +39,7 @@ module _ (N M : Net) (g : N.transitions ≡ M.transitions) (f : N.entries + N.in
 
 -- The net of some rows and arcs whose exits begin at a place.
 some_net : List ℕ → List ℕ → ℕ → ℕ → Net
-some_net rows arcs transitions exits-from = record { entries = exits-from; internals = 0; exits = 0; transitions = transitions_within rows arcs transitions }
+some_net rows arcs transitions exits_from = record { entries = exits_from; internals = 0; exits = 0; transitions = transitions_within rows arcs transitions }
 
 pub run_record_determined : Determined 4 kinds.ps kinds.r reads.Post
 unfolding some_net

@@ -1,5 +1,7 @@
 // 01, "Refusal numbers": "Then the buffer gets the entry marking and each step in turn". A run of a record's steps on the rows and arcs of a
 // net that is known to be in order, from a marking on.
+#![tactic(auto)]
+
 ghost use Rattle.std.specs.Prelude.{◌≡◌, true, ◌+◌, ◌≤◌, length, leb};
 ghost use Rattle.field.specs.Lists.{all};
 ghost use Rattle.algebra.specs.Net.{Net};

@@ -1,5 +1,7 @@
 // 01, "Net tables": the places of a transition, "inputs then outputs, each rising", from the lists of its actions: "both input sets and both
 // output sets". How many places each action has is told beforehand, so each is written once, where it belongs.
+#![tactic(auto)]
+
 ghost use Rattle.std.specs.Prelude.{◌≡◌, true, cond, [], ◌∷◌, ◌+◌, ◌*◌, ◌≤◌, length, get_or, ltb};
 ghost use Rattle.algebra.specs.Item.{one, two};
 ghost use Rattle.net.specs.Tables.{item_of};

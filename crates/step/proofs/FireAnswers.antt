@@ -23,7 +23,7 @@ use Rattle.step.specs.inner.Naming.{found_says}
 use Rattle.moving.specs.inner.Moves.{Moves}
 use Rattle.step.specs.inner.Reads.{read_and_fire}
 use Rattle.form.specs.declared.ItemsAnswer.{ItemsAnswer}
-use Rattle.form.specs.declared.ItemsAnswer.TheVariants as items-answer
+use Rattle.form.specs.declared.ItemsAnswer.TheVariants as items_answer
 use Rattle.moving.specs.declared.Fired.{Fired}
 use Rattle.moving.specs.declared.Fired.TheVariants.{Done, Refused}
 use Rattle.moving.proofs.MovesAreFiring.{ins_of, outs_of, Safe}
@@ -61,12 +61,12 @@ module _ (rows arcs : List ℕ) (transitions : ℕ) (is : List Item) (m ts : Lis
 
 -- The answers of `read_and_fire`: a step that is not read is refused, and one that is read fires its items.
 module _ (net : List Transition) (m s : List ℕ) (q : ItemsAnswer) (firsts seconds : List ℕ) (read : items_say 0 q firsts seconds ≡ read_lent_step s) where
-  pub step_refused : (n : ℕ) → q ≡ items-answer.Refused n → Moves (Refused n 0) m m (read_and_fire net m s)
+  pub step_refused : (n : ℕ) → q ≡ items_answer.Refused n → Moves (Refused n 0) m m (read_and_fire net m s)
   step_refused n e =
       let told : refused n 0 ≡ read_lent_step s = sym (ap (λ (a : ItemsAnswer). items_say 0 a firsts seconds) e) ∙ read in
       moves_refused n 0 m m (read_and_fire net m s) (rw (← told)) refl
 
-  pub step_fired : (count : ℕ) → q ≡ items-answer.Items count → (r : Fired) (m' : List ℕ) → Moves r m m' (fire_items net m (items_in count firsts seconds))
+  pub step_fired : (count : ℕ) → q ≡ items_answer.Items count → (r : Fired) (m' : List ℕ) → Moves r m m' (fire_items net m (items_in count firsts seconds))
       → Moves r m m' (read_and_fire net m s)
   step_fired count e r m' moves =
       let told : good (items_in count firsts seconds) ≡ read_lent_step s = sym (ap (λ (a : ItemsAnswer). items_say 0 a firsts seconds) e) ∙ read in

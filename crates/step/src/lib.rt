@@ -1,4 +1,6 @@
 // Fires a step at a marking: the call that is lent tables which may be no net, and a marking which may be none.
+#![tactic(auto)]
+
 ghost use Rattle.std.specs.Prelude.{◌≡◌};
 ghost use Rattle.net.specs.Lent.{lent};
 ghost use Rattle.moving.specs.Says.{fired_says};

@@ -1,5 +1,7 @@
 // 01, "Box construction": "Transitions stand in operand order. Scope a takes away those labelled a or a+128, keeps the rest in order,
 // then adds a silent one for each pair". The nodes are passed in the order of the bytes, in which an operand's actions stand together.
+#![tactic(auto)]
+
 pub mod parting;
 pub mod scope;
 

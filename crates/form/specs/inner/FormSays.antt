@@ -6,13 +6,13 @@ use Rattle.field.specs.Field.{tag_of, length_of}
 use Rattle.algebra.specs.Item.{Item}
 use Rattle.net.specs.Tables.{item_of}
 use Rattle.form.specs.declared.ItemAnswer.{ItemAnswer}
-use Rattle.form.specs.declared.ItemAnswer.TheVariants as item-answer
+use Rattle.form.specs.declared.ItemAnswer.TheVariants as item_answer
 use Rattle.form.specs.declared.ItemsAnswer.{ItemsAnswer}
-use Rattle.form.specs.declared.ItemsAnswer.TheVariants as items-answer
+use Rattle.form.specs.declared.ItemsAnswer.TheVariants as items_answer
 use Rattle.form.specs.declared.HeadAnswer.{HeadAnswer}
-use Rattle.form.specs.declared.HeadAnswer.TheVariants as head-answer
+use Rattle.form.specs.declared.HeadAnswer.TheVariants as head_answer
 use Rattle.form.specs.declared.StepAnswer.{StepAnswer}
-use Rattle.form.specs.declared.StepAnswer.TheVariants as step-answer
+use Rattle.form.specs.declared.StepAnswer.TheVariants as step_answer
 use Rattle.form.specs.Form.{ItemRead, StepRead, check_header}
 
 -- The actions of an item with this tag; none where it is no item's.
@@ -20,17 +20,17 @@ abbrev pub tag_count : ℕ → ℕ
 tag_count t = cond (eqb t 0x21) 1 (cond (eqb t 0x22) 2 0)
 
 abbrev pub item_says : ℕ → ItemAnswer → Answer ItemRead
-item_says at (item-answer.Refused n) = refused n at
-item_says at (item-answer.Item i j bytes) = good (record { item = item_of i j; bytes = bytes })
+item_says at (item_answer.Refused n) = refused n at
+item_says at (item_answer.Item i j bytes) = good (record { item = item_of i j; bytes = bytes })
 
 abbrev pub item_number : ItemAnswer → ℕ
-item_number (item-answer.Refused n) = n
-item_number (item-answer.Item i j bytes) = 0
+item_number (item_answer.Refused n) = n
+item_number (item_answer.Item i j bytes) = 0
 
 -- An item's first action rises and is a byte, and the item takes some of the bytes that are left.
 abbrev pub ItemFits : ℕ → ℕ → ItemAnswer → Type 0
-ItemFits least left (item-answer.Refused n) = Unit {0}
-ItemFits least left (item-answer.Item i j bytes) = (least ≤ i) × (i ≤ 255) × (1 ≤ bytes) × (bytes ≤ left)
+ItemFits least left (item_answer.Refused n) = Unit {0}
+ItemFits least left (item_answer.Item i j bytes) = (least ≤ i) × (i ≤ 255) × (1 ≤ bytes) × (bytes ≤ left)
 
 -- The items of a list of first actions and one of second actions.
 unfoldable pub paired : List ℕ → List ℕ → List Item
@@ -42,8 +42,8 @@ abbrev pub items_in : ℕ → List ℕ → List ℕ → List Item
 items_in n firsts seconds = paired (take n firsts) (take n seconds)
 
 abbrev pub items_say : ℕ → ItemsAnswer → List ℕ → List ℕ → Answer (List Item)
-items_say at (items-answer.Refused n) firsts seconds = refused n at
-items_say at (items-answer.Items n) firsts seconds = good (items_in n firsts seconds)
+items_say at (items_answer.Refused n) firsts seconds = refused n at
+items_say at (items_answer.Items n) firsts seconds = good (items_in n firsts seconds)
 
 -- So many first actions are bytes.
 abbrev pub Bytes : ℕ → List ℕ → Type 0
@@ -51,8 +51,8 @@ Bytes n firsts = (k : ℕ) → k < n → get_or firsts k 0 < 256
 
 -- There are no more items than 256, the two lists hold them, and their first actions are bytes.
 abbrev pub ItemsFit : ItemsAnswer → List ℕ → List ℕ → Type 0
-ItemsFit (items-answer.Refused n) firsts seconds = Unit {0}
-ItemsFit (items-answer.Items n) firsts seconds = (n ≤ 256) × (n ≤ length firsts) × (n ≤ length seconds) × Bytes n firsts
+ItemsFit (items_answer.Refused n) firsts seconds = Unit {0}
+ItemsFit (items_answer.Items n) firsts seconds = (n ≤ 256) × (n ≤ length firsts) × (n ≤ length seconds) × Bytes n firsts
 
 -- "a step's own header before them"; "a step of no items is not" good. The answer is the length of the body.
 unfoldable pub step_head : ℕ → List ℕ → Answer ℕ
@@ -64,19 +64,19 @@ step_head at s = do
   good (length_of s)
 
 abbrev pub head_says : ℕ → HeadAnswer → Answer ℕ
-head_says at (head-answer.Refused n) = refused n at
-head_says at (head-answer.Body n) = good n
+head_says at (head_answer.Refused n) = refused n at
+head_says at (head_answer.Body n) = good n
 
 -- The body lies in the bytes.
 abbrev pub HeadFits : ℕ → HeadAnswer → Type 0
-HeadFits left (head-answer.Refused n) = Unit {0}
-HeadFits left (head-answer.Body n) = 3 + n ≤ left
+HeadFits left (head_answer.Refused n) = Unit {0}
+HeadFits left (head_answer.Body n) = 3 + n ≤ left
 
 abbrev pub step_says : ℕ → StepAnswer → List ℕ → List ℕ → Answer StepRead
-step_says at (step-answer.Refused n) firsts seconds = refused n at
-step_says at (step-answer.Step n bytes) firsts seconds = good (record { items = items_in n firsts seconds; bytes = bytes })
+step_says at (step_answer.Refused n) firsts seconds = refused n at
+step_says at (step_answer.Step n bytes) firsts seconds = good (record { items = items_in n firsts seconds; bytes = bytes })
 
 -- The step lies in the bytes, and the two lists hold its items.
 abbrev pub StepFits : ℕ → StepAnswer → List ℕ → List ℕ → Type 0
-StepFits left (step-answer.Refused n) firsts seconds = Unit {0}
-StepFits left (step-answer.Step n bytes) firsts seconds = (1 ≤ bytes) × (bytes ≤ left) × (n ≤ 256) × (n ≤ length firsts) × (n ≤ length seconds) × Bytes n firsts
+StepFits left (step_answer.Refused n) firsts seconds = Unit {0}
+StepFits left (step_answer.Step n bytes) firsts seconds = (1 ≤ bytes) × (bytes ≤ left) × (n ≤ 256) × (n ≤ length firsts) × (n ≤ length seconds) × Bytes n firsts

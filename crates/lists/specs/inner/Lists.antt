@@ -6,7 +6,7 @@ use Rattle.arcs.specs.inner.Spreads.{Factor, Spread, Spreads}
 use Rattle.arcs.specs.declared.sides.Side.{Side}
 use Rattle.arcs.specs.declared.sides.Side.TheVariants.{Inputs, Outputs}
 use Rattle.lists.specs.declared.List as declared
-use Rattle.lists.specs.declared.Node as declared-node
+use Rattle.lists.specs.declared.Node as declared_node
 
 abbrev pub OneList : Type 0
 OneList = declared.List
@@ -32,10 +32,10 @@ pub record Modest (left right step off : ℕ) : Type 0 where
 abbrev pub list_row : List ℕ → ℕ → OneList
 list_row lists at = one_list (get_or lists at 0) (get_or lists (at + 1) 0) (get_or lists (at + 2) 0) (get_or lists (at + 3) 0) (get_or lists (at + 4) 0)
 
-abbrev pub node_row : List ℕ → ℕ → declared-node.Node
+abbrev pub node_row : List ℕ → ℕ → declared_node.Node
 node_row lists k = record { entries = list_row lists (11 * k); exits = list_row lists (11 * k + 5); internal = get_or lists (11 * k + 10) 0 }
 
-pub record ShortNode (n : declared-node.Node) : Type 0 where
+pub record ShortNode (n : declared_node.Node) : Type 0 where
   pub entries : Short n.entries
   pub exits : Short n.exits
   pub internal : n.internal ≤ 65535

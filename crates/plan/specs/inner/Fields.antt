@@ -12,7 +12,7 @@ use Rattle.plan.specs.inner.Nodes.{Row, row, nodes, numbers, node_count}
 use Rattle.plan.specs.declared.Head.{Head}
 use Rattle.plan.specs.declared.Head.TheVariants.{Refused, Action, Operator}
 use Rattle.plan.specs.declared.FieldRead.{FieldRead}
-use Rattle.plan.specs.declared.FieldRead.TheVariants as field-read
+use Rattle.plan.specs.declared.FieldRead.TheVariants as field_read
 use Rattle.plan.specs.declared.OperandsRead.{OperandsRead}
 use Rattle.plan.specs.declared.OperandsRead.TheVariants as operands_read
 
@@ -81,8 +81,8 @@ pub record Room (l room at node n : ℕ) : Type 0 where
 
 -- A field takes three bytes at least, and three for each of its nodes.
 abbrev pub FieldFits : FieldRead → ℕ → ℕ → Type 0
-FieldFits (field-read.Refused number carried) l node = Unit {0}
-FieldFits (field-read.Read used next n) l node = (3 ≤ used) × (used ≤ l) × (3 * next ≤ 3 * node + used) × (n ≤ action_limit)
+FieldFits (field_read.Refused number carried) l node = Unit {0}
+FieldFits (field_read.Read used next n) l node = (3 ≤ used) × (used ≤ l) × (3 * next ≤ 3 * node + used) × (n ≤ action_limit)
 
 abbrev pub OperandsFit : OperandsRead → ℕ → ℕ → Type 0
 OperandsFit (operands_read.Refused number carried) l node = Unit {0}
@@ -90,8 +90,8 @@ OperandsFit (operands_read.Read next n) l node = (3 * next ≤ 3 * node + l) × 
 
 -- A field's answer, and the rows at entry and at exit: those of its nodes are written, from `node` on.
 abbrev pub FieldIs : Answer Part → FieldRead → ℕ → ℕ → ℕ → List ℕ → List ℕ → Type 0
-FieldIs (refused number carried) r node i at entry exit = r ≡ field-read.Refused number carried
-FieldIs (good p) r node i at entry exit = (r ≡ field-read.Read p.bytes (node + node_count p.expr) p.so_far) × (exit ≡ sets entry (6 * node) (numbers (nodes node i at p.expr)))
+FieldIs (refused number carried) r node i at entry exit = r ≡ field_read.Refused number carried
+FieldIs (good p) r node i at entry exit = (r ≡ field_read.Read p.bytes (node + node_count p.expr) p.so_far) × (exit ≡ sets entry (6 * node) (numbers (nodes node i at p.expr)))
 
 abbrev pub OperandsAre : (k : ℕ) → Answer (Parts k) → OperandsRead → ℕ → ℕ → ℕ → List ℕ → List ℕ → Type 0
 OperandsAre k (refused number carried) r node i at entry exit = r ≡ operands_read.Refused number carried

@@ -31,6 +31,6 @@ run-from-entries-spec =
     (λ c. search rules)
     (λ c N h.
     let s = c.before.before.before.before.before.before.before.before.before.before.before.before in
-    let q = c.before.before.run-record in
+    let q = c.before.before.run_record in
     runs_from_entries N s.args.«record».now c.before.before.before.before.before.before.mark-entries.new.0 q.result q.new.1.1.1.1.1.0 (c.before.before.before.before.before.before.mark-entries.ensures ∙ entry_marking_is N (length s.args.marking.now) s.args.entries h.its_places h.its_entries)
     (q.ensures N h.its_transitions (ap₂ ◌+◌ h.its_entries h.its_internals))))

@@ -14,7 +14,7 @@ use Rattle.replay.specs.Replay.{Started, replayed, replay}
 
 -- What is left of `start` behind the plan.
 abbrev pub start_on : Net → List ℕ → List ℕ → Answer Started
-start_on N run-record buffer = check_room (place_count N) buffer >> (read_record run-record >>= λ R. good (record { net = N; recorded = R }))
+start_on N run_record buffer = check_room (place_count N) buffer >> (read_record run_record >>= λ R. good (record { net = N; recorded = R }))
 
 -- The rows and arcs hold this net, and these are its counts.
 pub record Holds (rows arcs : List ℕ) (places transitions entries internals : ℕ) (N : Net) : Type 0 where
@@ -24,16 +24,16 @@ pub record Holds (rows arcs : List ℕ) (places transitions entries internals : 
   pub its_internals : N.internals ≡ internals
 
 -- The answer and the net's part of the buffer are those of the record's steps from the entry marking on.
-pub record RunIs (N : Net) (run-record : List ℕ) (r : Ran) (exit : List ℕ) : Type 0 where
-  pub verdict : ran_says r ≡ (run N 0 (entry_marking N) (read_steps 0 0 run-record)).verdict
-  pub marking : exit ≡ (run N 0 (entry_marking N) (read_steps 0 0 run-record)).marking
+pub record RunIs (N : Net) (run_record : List ℕ) (r : Ran) (exit : List ℕ) : Type 0 where
+  pub verdict : ran_says r ≡ (run N 0 (entry_marking N) (read_steps 0 0 run_record)).verdict
+  pub marking : exit ≡ (run N 0 (entry_marking N) (read_steps 0 0 run_record)).marking
 
 -- The answer and the whole buffer are those of replay on this net.
-pub record ReplayIs (N : Net) (run-record buffer : List ℕ) (r : Ran) (exit : List ℕ) : Type 0 where
-  pub verdict : ran_says r ≡ (replayed buffer (start_on N run-record buffer)).verdict
-  pub buffer_is : exit ≡ (replayed buffer (start_on N run-record buffer)).buffer
+pub record ReplayIs (N : Net) (run_record buffer : List ℕ) (r : Ran) (exit : List ℕ) : Type 0 where
+  pub verdict : ran_says r ≡ (replayed buffer (start_on N run_record buffer)).verdict
+  pub buffer_is : exit ≡ (replayed buffer (start_on N run_record buffer)).buffer
 
 -- The answer and the whole buffer are the paper's.
-pub record Leaves (plan run-record buffer : List ℕ) (r : Ran) (exit : List ℕ) : Type 0 where
-  pub verdict : ran_says r ≡ (replay plan run-record buffer).verdict
-  pub buffer_is : exit ≡ (replay plan run-record buffer).buffer
+pub record Leaves (plan run_record buffer : List ℕ) (r : Ran) (exit : List ℕ) : Type 0 where
+  pub verdict : ran_says r ≡ (replay plan run_record buffer).verdict
+  pub buffer_is : exit ≡ (replay plan run_record buffer).buffer

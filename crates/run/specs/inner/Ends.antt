@@ -24,6 +24,6 @@ TakenFits left (taken.Refused n c) entry exit = exit ≡ entry
 -- The code's answer and the marking that it leaves are those of a record's steps, from a number of steps and a marking on, in every net that
 -- has these transitions and these places before its exits.
 abbrev pub Ends : Ran → List ℕ → List ℕ → List ℕ → ℕ → ℕ → ℕ → List ℕ → Recorded → Type 0
-Ends r exit rows arcs transitions exits-from steps entry recorded =
-    (N : Net) → N.transitions ≡ transitions_within rows arcs transitions → N.entries + N.internals ≡ exits-from
+Ends r exit rows arcs transitions exits_from steps entry recorded =
+    (N : Net) → N.transitions ≡ transitions_within rows arcs transitions → N.entries + N.internals ≡ exits_from
     → (ran_says r ≡ (run N steps entry recorded).verdict) × (exit ≡ (run N steps entry recorded).marking)

@@ -22,12 +22,12 @@ use Rattle.run.proofs.exits.exits_marked.Reads as exits-marked-reads
 use Rattle.run.proofs.steps.take_step.Reads as take-step-reads
 
 abbrev invariant-loop : tie.invariant-loop
-invariant-loop rows arcs transitions exits-from head next «record» firsts₀ seconds₀ ts₀ marking₀ place₀ firsts seconds ts marking place =
+invariant-loop rows arcs transitions exits_from head next «record» firsts₀ seconds₀ ts₀ marking₀ place₀ firsts seconds ts marking place =
     (length marking ≡ length marking₀) × (all (λ x. leb x 1) marking ≡ true) × (place.steps ≤ place.at) × (place.at ≤ length «record»)
     × Same rows arcs transitions place₀.steps marking₀ (read_steps place₀.at 0 (drop place₀.at «record»)) place.steps marking (read_steps place.at 0 (drop place.at «record»))
 
 abbrev decreases-loop : tie.decreases-loop
-decreases-loop rows arcs transitions exits-from head next «record» firsts₀ seconds₀ ts₀ marking₀ place₀ firsts seconds ts marking place =
+decreases-loop rows arcs transitions exits_from head next «record» firsts₀ seconds₀ ts₀ marking₀ place₀ firsts seconds ts marking place =
     length «record» - place.at
 
 abbrev claims : lts.Claims
@@ -69,7 +69,7 @@ again c =
       after.1,
       omega arith,
       omega arith,
-      goes_on a.rows.now a.arcs.now a.transitions a.exits-from a.from.steps a.marking.now (read_steps a.from.at 0 (drop a.from.at a.«record».now)) a.«record».now l.place.at l.place.steps l.marking l.invariant.4
+      goes_on a.rows.now a.arcs.now a.transitions a.exits_from a.from.steps a.marking.now (read_steps a.from.at 0 (drop a.from.at a.«record».now)) a.«record».now l.place.at l.place.steps l.marking l.invariant.4
           reached q.result q.new.1.1.1.1.1.1.1.1.1.1.0 q.ensures.0 (bytes c.before) c.before.before.bytes.given.1 k.0,
     )
 
@@ -87,7 +87,7 @@ run-steps-spec =
     (λ c. search rules)
     (λ c.
     let a = c.before.before.before.before.before.before.before.before.before.before.before.before.before.before.before.before.before.args in let l = c.before.before.before.before.before.before.before.before.before.before.before.before.loop in let q = c.before.before.before.before.before.take_step in
-    ends_refused a.rows.now a.arcs.now a.transitions a.exits-from a.from.steps a.marking.now (read_steps a.from.at 0 (drop a.from.at a.«record».now)) a.«record».now l.place.at l.place.steps l.marking l.invariant.4
+    ends_refused a.rows.now a.arcs.now a.transitions a.exits_from a.from.steps a.marking.now (read_steps a.from.at 0 (drop a.from.at a.«record».now)) a.«record».now l.place.at l.place.steps l.marking l.invariant.4
     c.before.before.before.before.before.before.before.before.before.before.if1.true q.result q.new.1.1.1.1.1.1.1.1.1.1.0 q.ensures.0 (length (drop l.place.at a.«record».now)) _ _ q.ensures.1 c.before.number.given.1)
     (λ c. search rules)
     (λ c. omega (arith, fits c))
@@ -98,10 +98,10 @@ run-steps-spec =
     (λ c. search rules)
     (λ c.
     let a = c.before.before.before.before.before.before.before.before.before.before.args in let l = c.before.before.before.before.before.loop in
-    ends_finished a.rows.now a.arcs.now a.transitions a.exits-from a.from.steps a.marking.now (read_steps a.from.at 0 (drop a.from.at a.«record».now)) a.«record».now l.place.at l.place.steps l.marking l.invariant.4
+    ends_finished a.rows.now a.arcs.now a.transitions a.exits_from a.from.steps a.marking.now (read_steps a.from.at 0 (drop a.from.at a.«record».now)) a.«record».now l.place.at l.place.steps l.marking l.invariant.4
     c.before.before.before.if1.false c.before.exits_marked.result c.before.exits_marked.ensures c.if2.true)
     (λ c. search rules)
     (λ c.
     let a = c.before.before.before.before.before.before.before.before.before.before.args in let l = c.before.before.before.before.before.loop in
-    ends_unfinished a.rows.now a.arcs.now a.transitions a.exits-from a.from.steps a.marking.now (read_steps a.from.at 0 (drop a.from.at a.«record».now)) a.«record».now l.place.at l.place.steps l.marking l.invariant.4
+    ends_unfinished a.rows.now a.arcs.now a.transitions a.exits_from a.from.steps a.marking.now (read_steps a.from.at 0 (drop a.from.at a.«record».now)) a.«record».now l.place.at l.place.steps l.marking l.invariant.4
     c.before.before.before.if1.false c.before.exits_marked.result c.before.exits_marked.ensures c.if2.false))
