@@ -1,20 +1,17 @@
 -- Each transition's arcs are strictly rising and below the place count.
 -- The numbers are written down while the list of places is walked once, and each is the position of its place.
-use Prim.Native.Nat.{ℕ, zero, suc, ◌+◌, ◌≤◌, ◌<◌}
+use Prim.Native.Nat.{ℕ, suc, ◌+◌, ◌≤◌}
 use native.Mathlib.Omega.{arith}
-use mathlib.Core.Path.{◌≡◌, refl, sym, subst}
-use mathlib.Core.Logic.{◌⊎◌, inl, inr}
 use mathlib.Core.Bool.{Bool, true, false, cond, ◌&&◌}
-use mathlib.Core.List.{List, [], ◌∷◌, Memᴰ}
-use lib.ListN.{length, get_or}
+use mathlib.Core.List.{List, [], ◌∷◌}
+use lib.ListN.{length}
 use lib.Dec.{T, leb, ltb, leb→le, le→leb, lt→ltb}
 use Rattle.algebra.specs.Expr.{Expr}
 use Rattle.net.specs.Check.{rising}
 use Rattle.algebra.specs.Places.{Place, places}
 use Rattle.algebra.specs.Transitions.{Labelled}
 use Rattle.algebra.specs.Arcs.{consumes, produces, by_item, numbers, transition_of}
-use Rattle.field.proofs.Tests.{parts_and, and_parts, or_cases}
-use Rattle.algebra.proofs.Anys.{any}
+use Rattle.field.proofs.Tests.{parts_and, and_parts}
 
 -- a list that rises from a number on also rises from a smaller one on
 rising_lower : (k l places : ℕ) (ns : List ℕ) → k ≤ l → T (rising l places ns) → T (rising k places ns)

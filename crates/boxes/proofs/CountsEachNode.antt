@@ -1,6 +1,6 @@
 -- One turn of counting, on plain values, and what the table holds after the last: the counts of every node in their order.
 -- A node is counted from operands that are counted, and its three numbers are written where no later node's stand.
-use Prim.Native.Nat.{ℕ, zero, suc, ◌+◌, ◌*◌, ◌-◌, ◌≤◌, ◌<◌}
+use Prim.Native.Nat.{ℕ, zero, suc, ◌+◌, ◌*◌, ◌≤◌, ◌<◌}
 use native.Mathlib.Omega.{arith}
 use mathlib.Core.Path.{◌≡◌, refl, sym, ◌∙◌, ap, ap₂, subst}
 use mathlib.Core.List.{List, [], ◌∷◌, ◌++◌}
@@ -136,7 +136,7 @@ pub all_counted : {rows before after : List ℕ} {count : ℕ} → Counted rows 
 unfolding node_counts
 all_counted {rows} {before} {after} {count} j E t =
     let known = j.known count (none_known rows count 3 box_counts before) in
-    let f = filled rows count 3 box_counts three after known E (table_node t) in
+    let f = filled rows count 3 box_counts three after known _ E (table_node t) in
     let p : length (node_counts E) ≡ 3 * count = f.long ∙ ap (λ n. 3 * n) (sym t.nodes) in
     stands_whole after before (node_counts E) j.long (omega (arith, j.room)) f.stands (λ i h. j.kept i (omega arith))
     ∙ ap (λ n. node_counts E ++ drop n before) p

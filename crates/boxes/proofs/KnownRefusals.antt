@@ -4,7 +4,7 @@ use Prim.Native.Nat.{ℕ, zero, suc}
 use mathlib.Core.Path.{◌≡◌, refl}
 use mathlib.Core.List.{List, [], ◌∷◌, ◌++◌, map}
 use lib.ListN.{replicate}
-use Rattle.field.specs.Answer.{Answer, good, refused}
+use Rattle.field.specs.Answer.{good, refused}
 use Rattle.field.specs.Field.{field}
 use Rattle.algebra.specs.Expr.{Expr, action, sequence, choice, parallel, loop, scope}
 use Rattle.plan.specs.Bytes.{encode}

@@ -1,12 +1,12 @@
 -- Every transition of an accepted plan has a label and actions that fit the tables: labels 0 to 127 and 129 to 255, actions up to 255.
 -- A label is an action's own or 0 of a joined pair, and the actions are those of the plan, of which there are at most 256.
-use Prim.Native.Nat.{ℕ, ◌+◌, ◌≤◌, ◌<◌}
+use Prim.Native.Nat.{ℕ, ◌+◌, ◌≤◌}
 use native.Mathlib.Omega.{arith}
-use mathlib.Core.Path.{◌≡◌, refl, sym, ap, subst}
+use mathlib.Core.Path.{sym, subst}
 use mathlib.Core.Logic.{◌⊎◌, inl, inr, ⊎_elim}
-use mathlib.Core.Bool.{Bool, true, false, not, ◌&&◌, ◌||◌}
+use mathlib.Core.Bool.{not, ◌&&◌}
 use mathlib.Core.List.Memᴰ
-use mathlib.Core.List.{List, [], ◌∷◌, ◌++◌, map, Memᴰ}
+use mathlib.Core.List.{List, ◌++◌, map, Memᴰ}
 use lib.Dec.{T, eqb, leb, eqb→eq, leb→le, le→leb, not_T}
 use Rattle.field.proofs.Tests.{and_parts, parts_and, or_cases}
 use Rattle.algebra.specs.Expr.{Expr, action, sequence, choice, parallel, loop, scope, actions}
@@ -18,7 +18,7 @@ use Rattle.field.specs.Lists.{all}
 use Rattle.net.specs.Check.{actions_fit, codes_fit}
 use Rattle.field.proofs.Alls.{all_of}
 use Rattle.algebra.specs.Places.{places}
-use Rattle.algebra.specs.Transitions.{Labelled, kept, joined, transitions}
+use Rattle.algebra.specs.Transitions.{Labelled, kept, transitions}
 use Rattle.algebra.specs.Arcs.{transition_of, net_of}
 use Rattle.algebra.proofs.Members.{kept_member, joined_member}
 use Rattle.algebra.proofs.EveryStepHasAnInput.{InRange, items_in_range}

@@ -1,7 +1,6 @@
 -- No two transitions of a net have the same action pair, as check 30 asks it of the tables.
 -- The items of a box are unlike, and the test for the same item says that two items are equal.
-use Prim.Native.Nat.{ℕ}
-use mathlib.Core.Path.{◌≡◌, subst}
+use mathlib.Core.Path.{subst}
 use mathlib.Core.Bool.{Bool, not}
 use mathlib.Core.List.Memᴰ
 use mathlib.Core.List.{List, [], ◌∷◌, map, Memᴰ}

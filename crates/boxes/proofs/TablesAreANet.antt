@@ -1,31 +1,30 @@
 -- The tables of every accepted plan pass check 30, also where the lent tables are longer, and read back as the plan's net.
 -- Reading keeps labels and actions within what the tables can say, 11 to 13 keep the counts, and the box does the rest.
-use Prim.Native.Nat.{ℕ, ◌+◌, ◌≤◌}
+use Prim.Native.Nat.{ℕ}
 use native.Mathlib.Omega.{arith}
-use mathlib.Core.Path.{◌≡◌, sym, ap, subst}
-use mathlib.Core.Bool.{◌&&◌}
+use mathlib.Core.Path.{◌≡◌, sym, subst}
 use mathlib.Core.List.Memᴰ
-use mathlib.Core.List.{List, ◌∷◌, map, Memᴰ}
+use mathlib.Core.List.{List, map, Memᴰ}
 use lib.ListN.{length}
 use lib.Dec.{T, leb, le→leb}
-use Rattle.field.specs.Answer.{Answer, good, refused, ◌>>=◌}
+use Rattle.field.specs.Answer.{good}
 use Rattle.field.proofs.Answers.{bind_good, good_same}
 use Rattle.field.proofs.Tests.{parts_and}
-use Rattle.algebra.specs.Expr.{Expr, actions}
+use Rattle.algebra.specs.Expr.{Expr}
 use Rattle.plan.specs.Reading.{read_plan}
 use Rattle.plan.specs.Loops.{check_loops}
 use Rattle.plan.proofs.Exact.{read_within}
-use Rattle.plan.proofs.Within.{Within, limits_within}
+use Rattle.plan.proofs.Within.{limits_within}
 use Rattle.plan.proofs.Scopes.{named_scopes}
-use Rattle.algebra.specs.Net.{Transition, Net, place_count}
-use Rattle.net.specs.Tables.{Tables, arcs_of, tables_of, transitions_in}
+use Rattle.algebra.specs.Net.{Transition, place_count}
+use Rattle.net.specs.Tables.{tables_of, transitions_in}
 use Rattle.field.specs.Lists.{all}
 use Rattle.net.specs.Check.{rising, lists_rise, check_net}
 use Rattle.field.proofs.Alls.{all_of}
-use Rattle.net.proofs.ReadTables.{lent_tables, lent_read_back, tables_read_back}
+use Rattle.net.proofs.ReadTables.{lent_tables, lent_read_back}
 use Rattle.net.proofs.NetPasses.{Orderly, orderly_passes, lent_passes}
-use Rattle.algebra.specs.Places.{entries, exits, places}
-use Rattle.algebra.specs.Transitions.{Labelled, transitions}
+use Rattle.algebra.specs.Places.{places}
+use Rattle.algebra.specs.Transitions.{transitions}
 use Rattle.algebra.specs.Arcs.{transition_of, net_of}
 use Rattle.boxes.specs.Counts.{check_size}
 use Rattle.boxes.specs.Compile.{accept}

@@ -1,5 +1,5 @@
 -- The compile call, whole: its answer and the three lent tables afterwards, for every plan and every three tables.
-use Rattle.std.specs.Prelude.{ℕ, ◌*◌, List, [], ◌∷◌, ◌++◌, Bool, ◌&&◌, length, drop, leb}
+use Rattle.std.specs.Prelude.{ℕ, ◌*◌, List, ◌++◌, ◌&&◌, length, drop, leb}
 use Rattle.field.specs.Refusals.{table_too_short}
 use Rattle.field.specs.Answer.{Answer, good, refused, ◌>>=◌, ◌>>◌, check}
 use Rattle.algebra.specs.Expr.{Expr}

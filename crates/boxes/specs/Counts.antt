@@ -1,11 +1,11 @@
 -- 01, "Refusal numbers", 11, 12, 13: "too many places, transitions, arcs in the whole net". The counts are cut off at one above the limit,
 -- so that they are found for every plan, also one whose net would be too large to write down.
-use Rattle.std.specs.Prelude.{ℕ, suc, ◌+◌, ◌*◌, min, List, [], ◌∷◌, map, length, leb}
+use Rattle.std.specs.Prelude.{ℕ, ◌+◌, ◌*◌, min, List, [], ◌∷◌, length, leb}
 use Rattle.field.specs.Limits.{place_limit, transition_limit, arc_limit}
 use Rattle.field.specs.Refusals.{too_many_places, too_many_transitions, too_many_arcs}
-use Rattle.field.specs.Answer.{Answer, good, refused, ◌>>=◌, ◌>>◌, check}
+use Rattle.field.specs.Answer.{Answer, ◌>>◌, check}
 use Rattle.algebra.specs.Expr.{Expr, action, sequence, choice, parallel, loop, scope}
-use Rattle.algebra.specs.Net.{Transition, Net}
+use Rattle.algebra.specs.Net.{Transition}
 use Rattle.algebra.specs.Transitions.{transitions}
 use Rattle.algebra.specs.Arcs.{net_of}
 

@@ -5,13 +5,11 @@ use mathlib.Core.Path.{◌≡◌, refl, sym, ◌∙◌}
 use mathlib.Core.Bool.{Bool, true, false, ◌&&◌}
 use lib.ListN.{length, take}
 use lib.Dec.{leb}
-use contract.Lifetimes.{Lfts}
-use borrow.Fn.Kinds.{Dens}
 use Rattle.field.specs.Refusals.{no_marking}
 use Rattle.field.specs.Answer.{◌>>◌, check}
 use Rattle.field.specs.Lists.{all}
 use Rattle.field.proofs.Answers.{good_not_refused}
-use Rattle.field.proofs.OneResult.{One, Allowed, Answered}
+use Rattle.field.proofs.OneResult.{Answered}
 use Rattle.net.specs.Check.{is_net}
 use Rattle.net.specs.Lent.{lent}
 use Rattle.net.specs.Marking.{check_room, check_marking}

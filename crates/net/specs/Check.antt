@@ -1,5 +1,5 @@
 -- 01, "Refusal numbers", the paragraph on 30: what makes tables no net, test by test in its order.
-use Rattle.std.specs.Prelude.{ℕ, zero, suc, ◌+◌, ◌*◌, List, [], ◌∷◌, ◌++◌, Bool, true, false, not, ◌&&◌, length, take, eqb, leb, ltb}
+use Rattle.std.specs.Prelude.{ℕ, zero, suc, ◌+◌, ◌*◌, List, [], ◌∷◌, Bool, true, false, not, ◌&&◌, length, take, eqb, leb, ltb}
 use Rattle.field.specs.Limits.{place_limit, transition_limit, arc_limit}
 use Rattle.field.specs.Refusals.{no_net}
 use Rattle.field.specs.Answer.{Answer, check}

@@ -1,8 +1,7 @@
 -- 01, "Refusal numbers", 35: "marking too short, or (firing, enabled list) a byte above 1". What lies past the net's part is not looked at.
-use Rattle.std.specs.Prelude.{ℕ, ◌+◌, List, [], ◌∷◌, ◌++◌, Bool, length, take, drop, replicate, leb}
+use Rattle.std.specs.Prelude.{ℕ, List, length, take, leb}
 use Rattle.field.specs.Refusals.{no_marking}
-use Rattle.field.specs.Answer.{Answer, check, ◌>>=◌, ◌>>◌}
-use Rattle.algebra.specs.Net.{Net}
+use Rattle.field.specs.Answer.{Answer, check, ◌>>◌}
 use Rattle.field.specs.Lists.{all}
 
 -- "35 (short only)", as replay asks it.

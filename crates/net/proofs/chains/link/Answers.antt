@@ -1,7 +1,6 @@
 -- `link`: the chains of the transitions from t on are built, and rise or not, and t goes down to 0. Assumes nothing.
 use Prim.Native.Nat.{◌-◌}
 use mathlib.Core.Path.{refl, ◌∙◌}
-use mathlib.Core.Bool.{true}
 use mathlib.Core.Logic.{inl}
 use native.Mathlib.Omega.{arith}
 use lib.ListN.{length-set}
