@@ -1,7 +1,7 @@
 -- The answers of `enabled`, each with the list that goes with it, for every input.
 -- Each is what `list-enabled` gives after the checks so far; on refusal nothing is written, and what lies behind the list stays.
-use Prim.Native.Nat.{ℕ, suc, ◌+◌, ◌≤◌, ◌<◌}
-use mathlib.Core.Path.{◌≡◌, refl, sym, ap, subst, ◌∙◌}
+use Prim.Native.Nat.{ℕ, ◌≤◌}
+use mathlib.Core.Path.{◌≡◌, sym, ap, ◌∙◌}
 use mathlib.Core.List.{List, [], ◌∷◌, ◌++◌}
 use mathlib.Core.Bool.{Bool, true, false}
 use native.Mathlib.Nat.{zero-add}
@@ -10,14 +10,13 @@ use borrow.Author.Tests.{leb-true}
 use lib.ListN.{length, take, drop}
 use lib.Dec.{leb}
 use lib.Seq.{sets, sets-eq}
-use Rattle.field.specs.Answer.{Answer, good, refused, ◌>>=◌, ◌>>◌, check}
-use Rattle.field.specs.Refusals.{no_marking, table_too_short}
+use Rattle.field.specs.Answer.{good, refused, check}
+use Rattle.field.specs.Refusals.{no_marking}
 use Rattle.algebra.specs.Firing.{enabled_from}
-use Rattle.algebra.specs.Net.{Transition}
 use Rattle.net.specs.Tables.{Tables, transitions_in}
 use Rattle.net.specs.Check.{is_net, check_net}
 use Rattle.net.specs.Marking.{check_marking}
-use Rattle.enabling.specs.Enabled.{list_enabled, listed, exits_hold, how_many, enabled, enabling}
+use Rattle.enabling.specs.Enabled.{list_enabled, exits_hold, how_many, enabled, enabling}
 use Rattle.moving.specs.inner.InOrder.{transitions_within}
 use Rattle.enabling.specs.Says.{enabling_says}
 use Rattle.enabling.specs.declared.Enabling.{Enabling}

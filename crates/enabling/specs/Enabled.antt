@@ -2,8 +2,7 @@
 -- answers how many"; and 02, K2: "stuck is to mean that nothing is enabled and some exit place is unmarked".
 use Rattle.std.specs.Prelude.{ℕ, suc, List, [], ◌∷◌, ◌++◌, length, take, drop, Bool, true, false, cond, not, ◌&&◌, ◌||◌, eqb, leb}
 use Rattle.field.specs.Refusals.{table_too_short}
-use Rattle.field.specs.Answer.{Answer, good, refused, ◌>>=◌, ◌>>◌, check}
-use Rattle.algebra.specs.Net.{Transition}
+use Rattle.field.specs.Answer.{Answer, good, refused, ◌>>◌, check}
 use Rattle.net.specs.Tables.{Tables, transitions_in}
 use Rattle.net.specs.Check.{check_net}
 use Rattle.net.specs.Marking.{check_marking}

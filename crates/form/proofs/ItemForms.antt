@@ -1,17 +1,17 @@
 -- The answer of `read-item` after each of its tests, and of `step-head` after each of its own.
 -- True by the definitions: a test that failed is the answer, and one that passed hands on to the next.
 use Prim.Native.Nat.{ℕ, ◌+◌, ◌-◌, ◌≤◌, ◌<◌}
-use mathlib.Core.Path.{◌≡◌, refl, sym, ap, ◌∙◌}
+use mathlib.Core.Path.{◌≡◌, refl}
 use mathlib.Core.List.{List}
 use mathlib.Core.Bool.{Bool, true, false, cond}
 use native.Mathlib.Omega.{arith}
 use borrow.Author.Tests.{le-leb, lt-leb, eq-eqb, ne_eqb}
 use lib.ListN.{length, get_or}
-use lib.Dec.{eqb, leb}
+use lib.Dec.{eqb}
 use Rattle.field.specs.Refusals.{record_field_cut, wrong_tag, wrong_length, not_rising}
-use Rattle.field.specs.Answer.{Answer, good, refused, ◌>>=◌, ◌>>◌, check}
+use Rattle.field.specs.Answer.{good, refused}
 use Rattle.field.specs.Field.{tag_of, length_of}
-use Rattle.algebra.specs.Item.{Item, one, two, first}
+use Rattle.algebra.specs.Item.{one, first}
 use Rattle.net.specs.Tables.{item_of}
 use Rattle.form.specs.Form as form
 use Rattle.form.specs.Form.{ItemTag, one_tag, two_tag, ItemRead, check_header, item_tag, action_count, read_item}

@@ -7,14 +7,14 @@ use native.Mathlib.Omega.{arith}
 use native.Mathlib.Numerals.{add-one}
 use lib.ListN.{length, get_or, take, drop, set, drop_of_length-le, length-drop}
 use lib.Seq.{get_or-set_same, get_or-set_other, take-suc-set, length-take-le, drop-drop, drop-cons, take_all}
-use Rattle.field.specs.Answer.{Answer, good, refused, ◌>>=◌, ◌>>◌, check}
+use Rattle.field.specs.Answer.{Answer, good, refused, ◌>>=◌}
 use lib.Dec.{eqb, ltb}
 use borrow.Author.Tests.{eqb-true, eqb-false, ltb-true, ltb-false}
 use Rattle.field.proofs.Tests.{test}
 use mathlib.Core.Bool.{Bool, true, false, cond}
 use Rattle.algebra.specs.Item.{Item, one, two, first}
 use Rattle.net.specs.Tables.{none, item_of}
-use Rattle.form.specs.Form.{ItemRead, StepRead, read_item, read_items}
+use Rattle.form.specs.Form.{read_item, read_items}
 use Rattle.form.specs.inner.FormSays.{paired, items_in, item_says, item_number, ItemFits}
 use Rattle.form.specs.declared.ItemAnswer.{ItemAnswer}
 use Rattle.form.specs.declared.ItemAnswer.TheVariants as item_answer

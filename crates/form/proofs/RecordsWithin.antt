@@ -9,7 +9,7 @@ use lib.ListN.{length, get_or, drop, take-append-drop}
 use lib.Dec.{T, leb, ltb, leb→le, ltb→lt, lt→ltb, le→leb}
 use Rattle.field.specs.Limits.{action_limit}
 use Rattle.field.specs.Answer.{good}
-use Rattle.field.specs.Field.{length_of, field}
+use Rattle.field.specs.Field.{length_of}
 use Rattle.field.specs.Lists.{all}
 use Rattle.field.proofs.AreBytes.{AreBytes, field_are_bytes}
 use Rattle.field.proofs.Tests.{and_parts, parts_and}

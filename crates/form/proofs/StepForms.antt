@@ -15,7 +15,7 @@ use Rattle.field.specs.Field.{tag_of, length_of, body_of}
 use Rattle.field.proofs.Answers.{bind_good, check_good, good_same}
 use Rattle.algebra.specs.Item.{Item}
 use Rattle.form.specs.Form.{StepRead, check_header, read_items, read_step, read_lent_step}
-use Rattle.form.specs.inner.FormSays.{items_in, items_say, Bytes, ItemsFit, head_says, HeadFits, step_head, step_says, StepFits}
+use Rattle.form.specs.inner.FormSays.{items_say, Bytes, ItemsFit, head_says, HeadFits, step_head, step_says}
 use Rattle.form.specs.declared.ItemsAnswer.{ItemsAnswer}
 use Rattle.form.specs.declared.ItemsAnswer.TheVariants as items_answer
 use Rattle.form.specs.declared.HeadAnswer.{HeadAnswer}

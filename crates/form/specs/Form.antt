@@ -1,5 +1,5 @@
 -- 01, "Run records" and "Refusal numbers", 20 to 24: the form of a step field and of a record. 21 to 24 carry the step's offset.
-use Rattle.std.specs.Prelude.{ℕ, zero, suc, ◌+◌, ◌-◌, List, [], ◌∷◌, Bool, true, false, cond, ◌&&◌, length, get_or, drop, eqb, leb}
+use Rattle.std.specs.Prelude.{ℕ, zero, suc, ◌+◌, ◌-◌, List, [], ◌∷◌, cond, ◌&&◌, length, get_or, eqb, leb}
 use Rattle.field.specs.Limits.{record_limit}
 use Rattle.field.specs.Refusals.{record_too_long, record_field_cut, wrong_tag, wrong_length, not_rising}
 use Rattle.field.specs.Answer.{Answer, good, refused, ◌>>=◌, ◌>>◌, check}

@@ -8,7 +8,7 @@ use borrow.Author.Tests.{leb-true}
 use lib.ListN.{length, take}
 use lib.Seq.{length-take-le}
 use lib.Dec.{leb}
-use Rattle.field.specs.Answer.{Answer, good, refused, ◌>>=◌, ◌>>◌, check}
+use Rattle.field.specs.Answer.{good, refused, check}
 use Rattle.field.specs.Refusals.{no_marking}
 use Rattle.field.specs.Lists.{all}
 use Rattle.field.proofs.Answers.{check_good, good_not_refused}

@@ -1,12 +1,12 @@
 -- A marking with the places of a list filled, place by place; and a marking restored by filling what may have been touched.
 -- A place of the list holds what was put there last, and every other place what it held before.
-use Prim.Native.Nat.{ℕ, zero, suc, ◌+◌, ◌≤◌, ◌<◌}
+use Prim.Native.Nat.{ℕ, zero, suc, ◌≤◌, ◌<◌}
 use mathlib.Core.Path.{◌≡◌, refl, sym, ap, subst, ◌∙◌}
-use mathlib.Core.List.{List, [], ◌∷◌, ◌++◌, map}
-use mathlib.Core.Bool.{Bool, true, false, cond, ◌&&◌}
+use mathlib.Core.List.{List, [], ◌∷◌, ◌++◌}
+use mathlib.Core.Bool.{Bool, true, ◌&&◌}
 use mathlib.Core.Logic.{◌⊎◌, inl, inr, ⊎_elim}
 use native.Mathlib.Omega.{arith}
-use lib.ListN.{length, get_or, set, length-set, get_or-eq_default}
+use lib.ListN.{length, get_or, set, length-set}
 use lib.Seq.{get_or-set_same, get_or-set_other, ext_get_or}
 use lib.Dec.{eqb, leb, eqb→eq, leb-suc-suc}
 use borrow.Author.Tests.{eqb-true, eqb-false, lt-leb}
@@ -17,7 +17,7 @@ use Rattle.algebra.specs.Firing.{count}
 use Rattle.algebra.proofs.Enough.{count_here, count_other, count_member}
 use Rattle.moving.specs.inner.Moving.{hold, holds_each, filled, shifts, shifts_each, in_one}
 use Rattle.field.proofs.Tests.{test}
-use Rattle.moving.proofs.MoveTurns.{Agree, filled_append}
+use Rattle.moving.proofs.MoveTurns.{Agree}
 
 pub zero_or_more : (n : ℕ) → (n ≡ 0) ⊎ (1 ≤ n)
 zero_or_more zero = inl refl

@@ -2,16 +2,13 @@
 -- Each is what `moves` gives after the tests so far; a test of all items is the test of their places in_one.
 use Prim.Native.Nat.{ℕ, ◌≤◌, ◌<◌}
 use mathlib.Core.Path.{◌≡◌, refl, sym, ap, subst, ◌∙◌}
-use mathlib.Core.List.{List, map}
+use mathlib.Core.List.{List}
 use mathlib.Core.Bool.{Bool, true, false}
 use lib.ListN.{length, length-map}
-use lib.Dec.{leb}
 use borrow.Author.Tests.{le-leb, lt-leb}
-use Rattle.field.specs.Answer.{Answer, good, refused, ◌>>=◌, ◌>>◌, check}
+use Rattle.field.specs.Answer.{Answer, good, refused}
 use Rattle.moving.specs.inner.Moving.{side_of, sides, AllFit, hold, holds_each, filled, shifts_each, in_one, passed, moves}
-use Rattle.moving.specs.Says.{fired_says}
 use Rattle.moving.specs.inner.Moves.{Moves, told, kept}
-use Rattle.moving.specs.declared.Fired.{Fired}
 use Rattle.moving.specs.declared.Fired.TheVariants.{Done, Refused}
 use Rattle.moving.proofs.MoveTurns.{Agree}
 use Rattle.moving.proofs.Filled.{filled_length, filled_agrees, restored, holds_all}

@@ -1,29 +1,28 @@
 -- Moving tokens place by place, as the code does, is the firing of 01: the same refusal at the same item, and the same marking.
 -- A place holds at most one token and a transition's inputs rise, so an input that is taken a second time is one that is shared; and
 -- putting a token on a place that holds one is what makes a place hold two.
-use Prim.Native.Nat.{ℕ, zero, suc, ◌+◌, ◌-◌, ◌≤◌, ◌<◌}
+use Prim.Native.Nat.{ℕ, zero, suc, ◌+◌, ◌≤◌, ◌<◌}
 use mathlib.Core.Path.{◌≡◌, refl, sym, ap, subst, ◌∙◌}
 use mathlib.Core.List.{List, [], ◌∷◌, ◌++◌, map}
-use mathlib.Core.Bool.{Bool, true, false, cond, ◌&&◌}
-use mathlib.Core.Logic.{◌⊎◌, inl, inr, ⊎_elim}
+use mathlib.Core.Bool.{Bool, true, false, ◌&&◌}
+use mathlib.Core.Logic.{⊎_elim}
 use native.Mathlib.Nat.{add-zero, add-suc, suc-add}
 use native.Mathlib.Omega.{arith}
 use borrow.Author.Tests.{eqb-true, eqb-false, eq-eqb, ne_eqb, le-leb, lt-leb, leb-true, leb-false, ltb-true}
-use lib.ListN.{length, get_or, set, length-map, length-set, get_or-eq_default}
-use lib.Seq.{get_or-set_same, get_or-set_other, ext_get_or}
+use lib.ListN.{length, get_or, set, get_or-eq_default}
+use lib.Seq.{get_or-set_other}
 use lib.Dec.{T, eqb, leb, ltb, leb-suc-suc}
-use Rattle.field.specs.Refusals.{input_empty, input_shared, two_tokens}
-use Rattle.field.specs.Answer.{Answer, good, refused, ◌>>=◌, ◌>>◌, check}
+use Rattle.field.specs.Refusals.{input_empty, input_shared}
+use Rattle.field.specs.Answer.{check}
 use Rattle.field.specs.Lists.{all}
 use Rattle.field.proofs.Tests.{and_parts, T_true, true_T}
 use Rattle.algebra.specs.Net.{Transition}
-use Rattle.algebra.specs.Firing.{marked, check_marked, count, check_apart, inputs_at, outputs_at, moved}
-use Rattle.algebra.proofs.Enough.{count_here, count_other, count_append}
-use Rattle.algebra.proofs.Fires.{moved_length, moved_at}
+use Rattle.algebra.specs.Firing.{marked, check_marked, count, check_apart}
+use Rattle.algebra.proofs.Enough.{count_here, count_other}
 use Rattle.net.specs.Check.{rising, lists_rise}
-use Rattle.moving.specs.inner.Moving.{hold, holds_each, filled, shifts, shifts_each, in_one, passed, moves}
-use Rattle.field.proofs.Tests.{never, test}
-use Rattle.moving.proofs.Filled.{zero_or_more, filled_length, filled_other, filled_here, hold_at, holds_all, shifts_all}
+use Rattle.moving.specs.inner.Moving.{hold, holds_each, filled, shifts, shifts_each, in_one, passed}
+use Rattle.field.proofs.Tests.{test}
+use Rattle.moving.proofs.Filled.{zero_or_more, filled_other, filled_here, hold_at}
 use Rattle.moving.proofs.MoveTurns.{filled_append}
 
 abbrev pub ins_of : List Transition → List (List ℕ)

@@ -1,20 +1,19 @@
 -- What passed check 30 is in order: its counts are within their limits, its rows and lists lie in the tables, and its lists rise.
 -- The starts of the rows meet and the last list ends at the arc count, so each list ends before.
 use Prim.Native.Nat.{ℕ, zero, suc, ◌+◌, ◌*◌, ◌≤◌, ◌<◌}
-use mathlib.Core.Path.{◌≡◌, refl, sym, ap, ap₂, subst, ◌∙◌}
-use mathlib.Core.List.{List, [], ◌∷◌}
-use mathlib.Core.Bool.{Bool, true, false, ◌&&◌}
+use mathlib.Core.Path.{◌≡◌, refl, ap, subst}
+use mathlib.Core.List.{List, ◌∷◌}
+use mathlib.Core.Bool.{true}
 use native.Mathlib.Omega.{arith}
 use borrow.Author.Tests.{eqb-true, eqb-false}
 use lib.ListN.{length, take}
 use lib.Dec.{T, eqb, leb, leb→le, eqb→eq}
 use Rattle.field.specs.Lists.{all}
-use Rattle.field.proofs.Tests.{and_parts, T_true, true_T}
+use Rattle.field.proofs.Tests.{and_parts, true_T}
 use Rattle.algebra.specs.Net.{Transition}
 use Rattle.net.specs.Tables.{Tables, number, transition_at, transitions_from, transitions_in}
-use Rattle.net.specs.Check.{counts_fit, tables_reach, kinds_ordered, lists_rise, starts_meet, codes_fit, pairs_differ, is_net}
+use Rattle.net.specs.Check.{counts_fit, tables_reach, kinds_ordered, lists_rise, starts_meet, is_net}
 use Rattle.net.specs.Lent.{lent}
-use Rattle.net.specs.inner.Chains.{in_row}
 use Rattle.net.proofs.RowsPass.{starts_within}
 use Rattle.moving.specs.inner.InOrder.{rows_and_arcs, transitions_within, InOrder}
 use Rattle.field.proofs.Tests.{test}

@@ -1,10 +1,9 @@
 -- What a net in order gives each of its transitions: its row and its lists lie in the tables, its place numbers are places, and its lists rise.
 -- A test of all transitions holds of each, and a rising list is below the number of places.
-use Prim.Native.Nat.{ℕ, zero, suc, ◌+◌, ◌*◌, ◌≤◌, ◌<◌}
-use mathlib.Core.Path.{◌≡◌, refl, sym, ap, ap₂, subst, ◌∙◌}
+use Prim.Native.Nat.{ℕ, zero, suc, ◌+◌, ◌≤◌, ◌<◌}
+use mathlib.Core.Path.{◌≡◌, refl, ap, ap₂, subst}
 use mathlib.Core.List.{List, [], ◌∷◌, map}
-use mathlib.Core.Bool.{Bool, true, false, ◌&&◌}
-use native.Mathlib.Nat.{add-suc, suc-add}
+use mathlib.Core.Bool.{Bool, true, false}
 use native.Mathlib.Omega.{arith}
 use borrow.Author.Tests.{eqb-true, eqb-false}
 use lib.ListN.{length, get_or}
@@ -14,9 +13,8 @@ use Rattle.field.proofs.Tests.{and_parts, parts_and, T_true, true_T}
 use Rattle.algebra.specs.Net.{Transition}
 use Rattle.net.specs.Tables.{transition_at, transitions_from}
 use Rattle.net.specs.Check.{rising, lists_rise}
-use Rattle.net.specs.inner.Chains.{in_row}
-use Rattle.moving.specs.inner.Moving.{side_of, sides, Below, Fits, AllFit}
-use Rattle.moving.specs.inner.InOrder.{rows_and_arcs, transition_in, transitions_within, InOrder}
+use Rattle.moving.specs.inner.Moving.{side_of, sides, Below, Fits}
+use Rattle.moving.specs.inner.InOrder.{rows_and_arcs, transition_in, InOrder}
 use Rattle.field.proofs.Tests.{test}
 use Rattle.moving.proofs.MovesAreFiring.{ins_of, outs_of, Rising, rising_lists}
 

@@ -2,17 +2,17 @@
 -- a place would hold two. Place by place: what was there less what is taken, plus what is given.
 use Prim.Native.Nat.{ℕ, zero, suc, ◌+◌, ◌-◌, ◌≤◌, ◌<◌}
 use mathlib.Core.Path.{◌≡◌, refl, sym, ap, subst, ◌∙◌}
-use mathlib.Core.List.{List, [], ◌∷◌, ◌++◌, map}
+use mathlib.Core.List.{List, [], ◌∷◌}
 use mathlib.Core.Bool.{Bool, true, false, ◌&&◌}
 use mathlib.Core.Logic.{⊎_elim}
 use native.Mathlib.Nat.{zero-add}
 use native.Mathlib.Omega.{arith}
-use borrow.Author.Tests.{eqb-true, eqb-false, eq-eqb, le-leb, leb-true, ltb-true, ltb-false}
+use borrow.Author.Tests.{eqb-true, eqb-false, eq-eqb, le-leb, ltb-true, ltb-false}
 use lib.ListN.{length, get_or, set, length-set, get_or-eq_default}
 use lib.Seq.{get_or-set_same, get_or-set_other, ext_get_or}
-use lib.Dec.{T, eqb, leb, ltb, le→leb, leb→le, eqb_refl, ltb→lt}
-use Rattle.field.specs.Refusals.{input_empty, input_shared, two_tokens}
-use Rattle.field.specs.Answer.{Answer, good, refused, ◌>>=◌, ◌>>◌, check}
+use lib.Dec.{T, eqb, leb, ltb, leb→le, ltb→lt}
+use Rattle.field.specs.Refusals.{input_shared, two_tokens}
+use Rattle.field.specs.Answer.{Answer, good, refused, ◌>>◌, check}
 use Rattle.field.specs.Lists.{all}
 use Rattle.field.proofs.Tests.{and_parts, T_true, true_T}
 use Rattle.field.proofs.Alls.{all_of}

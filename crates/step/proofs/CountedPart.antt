@@ -2,10 +2,10 @@
 -- What is asked behind 30 and 35 is asked of the net's part, and a step leaves as many places.
 use Prim.Native.Nat.{ℕ}
 use mathlib.Core.Path.{◌≡◌, refl, sym, ap, ◌∙◌}
-use mathlib.Core.List.{List, ◌++◌}
+use mathlib.Core.List.{List}
 use lib.ListN.{length, take, drop}
 use lib.Seq.{length-take-le, take_at, drop_at}
-use Rattle.field.specs.Answer.{Answer, good, refused, ◌>>=◌, ◌>>◌}
+use Rattle.field.specs.Answer.{Answer, good, refused, ◌>>=◌}
 use Rattle.field.proofs.Answers.{bind_good}
 use Rattle.algebra.specs.Firing.{fire_items}
 use Rattle.algebra.proofs.Fires.{moved_length, fires_of}

@@ -1,6 +1,5 @@
 -- `fire` asks nothing, and its contract determines its answer and what it leaves in the marking.
 -- The contract equates both with a function of the input, and no two answers of the code say the same.
-use Prim.Native.Nat.{ℕ}
 use mathlib.Core.Path.{◌≡◌, refl, sym, ◌∙◌}
 use contract.Lifetimes.{Lfts}
 use borrow.Fn.Kinds.{Dens}

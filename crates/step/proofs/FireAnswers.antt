@@ -1,14 +1,14 @@
 -- The answers of `fire_items`, each with the marking that goes with it.
 -- 31 is the answer where an item was not found; else the items' transitions are known, and moving their tokens is the rest of the firing.
-use Prim.Native.Nat.{ℕ, ◌+◌, ◌≤◌, ◌<◌}
+use Prim.Native.Nat.{ℕ, ◌≤◌, ◌<◌}
 use mathlib.Core.Path.{◌≡◌, refl, sym, ap, subst, ◌∙◌}
 use mathlib.Core.List.{List, [], map}
-use mathlib.Core.Bool.{Bool, true, false}
+use mathlib.Core.Bool.{true, false}
 use native.Mathlib.Omega.{arith}
 use borrow.Author.Tests.{lt-ltb, le-ltb}
-use lib.ListN.{length, get_or, take}
+use lib.ListN.{length, get_or}
 use lib.Seq.{take_all}
-use lib.Dec.{leb, ltb}
+use lib.Dec.{leb}
 use Rattle.field.specs.Answer.{Answer, good, refused, ◌>>=◌, ◌>>◌, check}
 use Rattle.field.specs.Lists.{all}
 use Rattle.field.specs.Refusals.{no_transition, two_tokens}
@@ -17,7 +17,7 @@ use Rattle.algebra.specs.Net.{Transition}
 use Rattle.algebra.specs.Firing.{transitions_named, check_marked, check_apart, moved, fire_items}
 use Rattle.form.specs.Form.{read_lent_step}
 use Rattle.form.specs.inner.FormSays.{items_in, items_say}
-use Rattle.moving.specs.inner.Moving.{sides, moves, Fits, AllFit}
+use Rattle.moving.specs.inner.Moving.{sides, moves, AllFit}
 use Rattle.moving.specs.inner.InOrder.{transition_in, transitions_within, InOrder}
 use Rattle.step.specs.inner.Naming.{found_says}
 use Rattle.moving.specs.inner.Moves.{Moves}
@@ -25,8 +25,7 @@ use Rattle.step.specs.inner.Reads.{read_and_fire}
 use Rattle.form.specs.declared.ItemsAnswer.{ItemsAnswer}
 use Rattle.form.specs.declared.ItemsAnswer.TheVariants as items_answer
 use Rattle.moving.specs.declared.Fired.{Fired}
-use Rattle.moving.specs.declared.Fired.TheVariants.{Done, Refused}
-use Rattle.moving.proofs.MovesAreFiring.{ins_of, outs_of, Safe}
+use Rattle.moving.specs.declared.Fired.TheVariants.{Refused}
 use Rattle.moving.proofs.MoveAnswers.{moves_refused}
 use Rattle.moving.proofs.Outcome.{below_all, moves_are}
 use Rattle.moving.proofs.Orders.{both_sides, transition_fits, transitions_rise}

@@ -1,23 +1,23 @@
 -- The answers of `fire`, each with the marking that goes with it, for every input.
 -- Each is what `fire-step` gives after the checks so far; on refusal the marking is as it was, and what lies past the net's part stays.
 use Prim.Native.Nat.{ℕ}
-use mathlib.Core.Path.{◌≡◌, refl, sym, ap, subst, ◌∙◌}
+use mathlib.Core.Path.{◌≡◌, sym, ap, subst, ◌∙◌}
 use mathlib.Core.List.{List, ◌++◌}
 use mathlib.Core.Bool.{Bool, true, false}
-use lib.ListN.{length, take, drop, take-append-drop}
-use Rattle.field.specs.Answer.{Answer, good, refused, ◌>>=◌, ◌>>◌, check}
+use lib.ListN.{take, drop, take-append-drop}
+use Rattle.field.specs.Answer.{Answer, good, refused, check}
 use Rattle.field.specs.Refusals.{no_marking}
 use Rattle.algebra.specs.Net.{Transition}
 use Rattle.net.specs.Tables.{Tables, transitions_in}
 use Rattle.net.specs.Check.{is_net, check_net}
 use Rattle.net.specs.Marking.{check_marking}
-use Rattle.step.specs.Fire.{fire_step, fired, fire}
+use Rattle.step.specs.Fire.{fire_step, fire}
 use Rattle.moving.specs.inner.InOrder.{transitions_within}
 use Rattle.moving.specs.Says.{fired_says}
-use Rattle.moving.specs.inner.Moves.{told, kept, Moves}
+use Rattle.moving.specs.inner.Moves.{Moves}
 use Rattle.step.specs.inner.Reads.{read_and_fire}
 use Rattle.moving.specs.declared.Fired.{Fired}
-use Rattle.moving.specs.declared.Fired.TheVariants.{Done, Refused}
+use Rattle.moving.specs.declared.Fired.TheVariants.{Refused}
 use Rattle.moving.proofs.NetInOrder.{transitions_lent}
 
 -- What the code answers and leaves is what the call says.

@@ -1,10 +1,10 @@
 -- Seeking the transition of two actions finds the one that an item names; and the transitions of a step's items, found one after another.
 -- An item names a transition when their first and their second numbers are the same, where 65,535 is the second number of one action.
-use Prim.Native.Nat.{ℕ, zero, suc, ◌+◌, ◌-◌, ◌≤◌, ◌<◌}
+use Prim.Native.Nat.{ℕ, zero, suc, ◌+◌, ◌≤◌, ◌<◌}
 use mathlib.Core.Path.{◌≡◌, refl, sym, ap, ap₂, subst, ◌∙◌}
 use mathlib.Core.List.{List, [], ◌∷◌, ◌++◌, map, append-nil}
 use mathlib.Core.Bool.{Bool, true, false, cond, ◌&&◌}
-use native.Mathlib.Nat.{add-zero, add-suc, suc-add}
+use native.Mathlib.Nat.{add-suc, suc-add}
 use native.Mathlib.Numerals.{add-one}
 use native.Mathlib.Omega.{arith}
 use borrow.Author.Tests.{eqb-true, eqb-false, eq-eqb, ne_eqb, lt-ltb, le-ltb}
@@ -12,8 +12,8 @@ use lib.ListN.{length, get_or, set, take, drop, drop_of_length-le}
 use lib.Seq.{drop-cons, take-suc-set}
 use lib.Dec.{eqb, ltb}
 use Rattle.field.specs.Refusals.{no_transition}
-use Rattle.field.specs.Answer.{Answer, good, refused, ◌>>=◌}
-use Rattle.algebra.specs.Item.{Item, one, two, same_item}
+use Rattle.field.specs.Answer.{good, refused}
+use Rattle.algebra.specs.Item.{same_item}
 use Rattle.algebra.specs.Net.{Transition}
 use Rattle.algebra.specs.Firing.{names, named_by, transitions_named}
 use Rattle.net.specs.Tables.{none, item_of, transition_at, transitions_from}

@@ -1,5 +1,5 @@
 -- 01, "Box construction": where the places of an operand's lists stand in the lists of the whole, for each operator, operand and list.
-use Rattle.std.specs.Prelude.{ℕ, ◌+◌, ◌*◌, ◌≤◌, ◌≡◌, Bool, false, List, map, length, replicate}
+use Rattle.std.specs.Prelude.{ℕ, ◌+◌, ◌*◌, ◌≡◌, Bool, false, List, map, length, replicate}
 use Rattle.algebra.specs.Expr.{Expr}
 use Rattle.algebra.specs.Places.{Place, entries, internals, exits}
 use Rattle.algebra.specs.Arcs.{consumes, produces}

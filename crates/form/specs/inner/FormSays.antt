@@ -1,7 +1,7 @@
 -- What the answers of the code that reads a step say, case by case: 01's number and values. The refusals of step form carry the step's offset.
-use Rattle.std.specs.Prelude.{ℕ, suc, ◌+◌, ◌-◌, ◌≤◌, ◌<◌, List, [], ◌∷◌, Bool, cond, length, get_or, take, eqb, leb}
+use Rattle.std.specs.Prelude.{ℕ, ◌+◌, ◌≤◌, ◌<◌, List, [], ◌∷◌, cond, length, get_or, take, eqb, leb}
 use Rattle.field.specs.Refusals.{wrong_tag, wrong_length}
-use Rattle.field.specs.Answer.{Answer, good, refused, ◌>>=◌, ◌>>◌, check}
+use Rattle.field.specs.Answer.{Answer, good, refused, ◌>>◌, check}
 use Rattle.field.specs.Field.{tag_of, length_of}
 use Rattle.algebra.specs.Item.{Item}
 use Rattle.net.specs.Tables.{item_of}

@@ -1,9 +1,8 @@
 -- Tokens taken and put place by place, as the code does it. That this is the firing of 01 is shown of it.
-use Rattle.std.specs.Prelude.{ℕ, zero, suc, ◌+◌, ◌*◌, ◌≤◌, ◌<◌, ◌≡◌, List, [], ◌∷◌, ◌++◌, map, Bool, true, false, cond, ◌&&◌, length, get_or, set, take, drop, eqb, leb}
+use Rattle.std.specs.Prelude.{ℕ, suc, ◌+◌, ◌*◌, ◌≤◌, ◌<◌, List, [], ◌∷◌, ◌++◌, map, Bool, true, false, cond, ◌&&◌, length, get_or, set, take, drop, eqb, leb}
 use Rattle.field.specs.Refusals.{input_empty, input_shared, two_tokens}
-use Rattle.field.specs.Answer.{Answer, good, refused, ◌>>=◌, ◌>>◌, check}
+use Rattle.field.specs.Answer.{Answer, good, ◌>>◌, check}
 use Rattle.field.specs.Lists.{all}
-use Rattle.algebra.specs.Firing.{count}
 use Rattle.net.specs.inner.Chains.{in_row}
 
 -- The places on one side of a transition: those that it produces into, or else those that it consumes from.

@@ -1,6 +1,6 @@
 -- One step of a record, its form and then its firing, as the code takes it: "each step in turn; form is judged as a step is reached".
 use Rattle.std.specs.Prelude.{ℕ, List}
-use Rattle.field.specs.Answer.{Answer, good, ◌>>=◌, ◌>>◌}
+use Rattle.field.specs.Answer.{Answer, good, ◌>>=◌}
 use Rattle.algebra.specs.Net.{Transition}
 use Rattle.algebra.specs.Firing.{fire_items}
 use Rattle.form.specs.Form.{read_step}
