@@ -7,7 +7,7 @@ mod records;
 mod refusals;
 mod show;
 
-fn main() {
-    limits::run();
-    refusals::run();
+fn main(rt: HostRuntime) {
+    limits::run(&rt);
+    refusals::run(&rt);
 }

@@ -1,1 +1,2 @@
 pub mod Inside
+mod More

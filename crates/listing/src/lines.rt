@@ -2,23 +2,21 @@
 // buffer, and answers how many there are then.
 ghost use Rattle.std.specs.Prelude.{◌≡◌, ◌<◌, ◌≤◌, length};
 
-use libc::STDOUT_FILENO;
-
 const ROOM: usize = 4096;
 
-fn write_first(out: &[u8], n: usize)
+fn write_first(rt: &impl Print, out: &[u8], n: usize)
     requires { n ≤ length out.now }
 {
-    io::write_all(STDOUT_FILENO, &out[..n]);
+    console::say(rt, &out[..n]);
 }
 
-fn write(out: &[u8; ROOM], n: usize)
+fn write(rt: &impl Print, out: &[u8; ROOM], n: usize)
     requires { n ≤ 4096 }
 {
-    write_first(out, n);
+    write_first(rt, out, n);
 }
 
-fn put(out: &mut [u8; ROOM], at: usize, byte: u8) -> usize
+fn put(rt: &impl Print, out: &mut [u8; ROOM], at: usize, byte: u8) -> usize
     requires { at ≤ 4096 }
     ensures { result ≤ 4096 }
 {
@@ -26,40 +24,39 @@ fn put(out: &mut [u8; ROOM], at: usize, byte: u8) -> usize
         out[at] = byte;
         return at + 1;
     }
-    write(out, ROOM);
+    write(rt, out, ROOM);
     out[0] = byte;
     1
 }
 
-fn put_text(out: &mut [u8; ROOM], at: usize, text: &[u8]) -> usize
+fn put_text(rt: &impl Print, out: &mut [u8; ROOM], at: usize, text: &[u8]) -> usize
     requires { at ≤ 4096 }
     ensures { result ≤ 4096 }
 {
     let mut next = at;
     let mut i = 0;
     while i < text.len() {
-        next = put(out, next, text[i]);
+        next = put(rt, out, next, text[i]);
         i += 1;
     }
     next
 }
 
-fn put_number(out: &mut [u8; ROOM], at: usize, n: usize) -> usize
+fn put_number(rt: &impl Print, out: &mut [u8; ROOM], at: usize, n: usize) -> usize
     requires { at ≤ 4096 }
     ensures { result ≤ 4096 }
 {
-    let mut digits = [0u8; 20];
-    let count = io::decimal(n as u64, &mut digits);
-    put_text(out, at, &digits[..count])
+    let mut digits = itoa::Buffer::new();
+    put_text(rt, out, at, digits.format(n).as_bytes())
 }
 
 // A space and a number.
-fn put_next(out: &mut [u8; ROOM], at: usize, n: usize) -> usize
+fn put_next(rt: &impl Print, out: &mut [u8; ROOM], at: usize, n: usize) -> usize
     requires { at ≤ 4096 }
     ensures { result ≤ 4096 }
 {
-    let next = put(out, at, b' ');
-    put_number(out, next, n)
+    let next = put(rt, out, at, b' ');
+    put_number(rt, out, next, n)
 }
 
 // The number at i of a table, and 0 behind its end.
@@ -91,57 +88,71 @@ fn row_number(rows: &[u16], t: usize, k: usize) -> usize
 }
 
 // The places from start to end of the arcs.
-fn put_places(out: &mut [u8; ROOM], at: usize, arcs: &[u16], start: usize, end: usize) -> usize
+fn put_places(
+    rt: &impl Print,
+    out: &mut [u8; ROOM],
+    at: usize,
+    arcs: &[u16],
+    start: usize,
+    end: usize,
+) -> usize
     requires { at ≤ 4096 }
     ensures { result ≤ 4096 }
 {
     let mut next = at;
     let mut i = start;
     while i < end {
-        next = put_next(out, next, number_at(arcs, i));
+        next = put_next(rt, out, next, number_at(arcs, i));
         i += 1;
     }
     next
 }
 
-fn put_second(out: &mut [u8; ROOM], at: usize, second: usize) -> usize
+fn put_second(rt: &impl Print, out: &mut [u8; ROOM], at: usize, second: usize) -> usize
     requires { at ≤ 4096 }
     ensures { result ≤ 4096 }
 {
     if second == field::NO_SECOND {
-        return put_text(out, at, b" -");
+        return put_text(rt, out, at, b" -");
     }
-    put_next(out, at, second)
+    put_next(rt, out, at, second)
 }
 
 // "number, label, first and second action (`-` for none), inputs, outputs"
-fn put_transition(out: &mut [u8; ROOM], at: usize, rows: &[u16], t: usize, arcs: &[u16]) -> usize
+fn put_transition(
+    rt: &impl Print,
+    out: &mut [u8; ROOM],
+    at: usize,
+    rows: &[u16],
+    t: usize,
+    arcs: &[u16],
+) -> usize
     requires { at ≤ 4096 }
     ensures { result ≤ 4096 }
 {
     let start = row_number(rows, t, 3);
     let middle = start + row_number(rows, t, 4);
     let end = middle + row_number(rows, t, 5);
-    let mut next = put(out, at, b't');
-    next = put_next(out, next, t);
-    next = put_next(out, next, row_number(rows, t, 0));
-    next = put_next(out, next, row_number(rows, t, 1));
-    next = put_second(out, next, row_number(rows, t, 2));
-    next = put_text(out, next, b" :");
-    next = put_places(out, next, arcs, start, middle);
-    next = put_text(out, next, b" >");
-    next = put_places(out, next, arcs, middle, end);
-    put(out, next, b'\n')
+    let mut next = put(rt, out, at, b't');
+    next = put_next(rt, out, next, t);
+    next = put_next(rt, out, next, row_number(rows, t, 0));
+    next = put_next(rt, out, next, row_number(rows, t, 1));
+    next = put_second(rt, out, next, row_number(rows, t, 2));
+    next = put_text(rt, out, next, b" :");
+    next = put_places(rt, out, next, arcs, start, middle);
+    next = put_text(rt, out, next, b" >");
+    next = put_places(rt, out, next, arcs, middle, end);
+    put(rt, out, next, b'\n')
 }
 
 // The lines of so many transitions.
-pub fn write_transitions(rows: &[u16], transitions: usize, arcs: &[u16]) {
+pub fn write_transitions(rt: &impl Print, rows: &[u16], transitions: usize, arcs: &[u16]) {
     let mut out = [0u8; ROOM];
     let mut next = 0;
     let mut t = 0;
     while t < transitions {
-        next = put_transition(&mut out, next, rows, t, arcs);
+        next = put_transition(rt, &mut out, next, rows, t, arcs);
         t += 1;
     }
-    write(&out, next);
+    write(rt, &out, next);
 }

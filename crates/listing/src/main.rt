@@ -11,14 +11,14 @@ const PLAN_ROOM: usize = field::PLAN_LIMIT + 1;
 
 const ROWS_ROOM: usize = 6 * field::TRANSITION_LIMIT;
 
-fn list(plan: &[u8]) {
+fn list(rt: &impl Print, plan: &[u8]) {
     let mut kinds = [0u8; field::PLACE_LIMIT];
     let mut rows = [0u16; ROWS_ROOM];
     let mut arcs = [0u16; field::ARC_LIMIT];
     match compile::compile(plan, &mut kinds, &mut rows, &mut arcs) {
         Compiling::Refused(number, carried) => {
-            console::say_refused(number, carried);
-            console::say(b"\n");
+            console::say_refused(rt, number, carried);
+            console::say(rt, b"\n");
         }
         Compiling::Made {
             places,
@@ -27,17 +27,19 @@ fn list(plan: &[u8]) {
             entries,
             internals,
         } => {
-            console::say_net(places, transitions, arc_count, entries, internals);
-            console::say(b"\n");
-            lines::write_transitions(&rows, transitions, &arcs);
+            console::say_net(rt, places, transitions, arc_count, entries, internals);
+            console::say(rt, b"\n");
+            lines::write_transitions(rt, &rows, transitions, &arcs);
         }
     }
 }
 
-fn main() {
+fn main(rt: HostRuntime) {
     let mut plan = [0u8; PLAN_ROOM];
-    match console::read_all(libc::STDIN_FILENO, &mut plan) {
-        Input::Bytes(n) => list(&plan[..n]),
-        Input::Failed => os::fail(b"plan"),
+    match console::read_all(&mut rt.stdin(), &mut plan) {
+        Input::Bytes(n) => list(&rt, &plan[..n]),
+        Input::Failed(e) => {
+            let _ = eprintln!(rt; "plan: {e}");
+        }
     }
 }

@@ -12,7 +12,7 @@ use plan::exclusive::wide;
 
 // One list of a node: position p is `width` numbers from base + p * width on; and these `times` times, each time `step` more, and then as
 // the list of node `up` on the same side. With 0 times they are all.
-#[derive(Drop)]
+#[derive(Clone, Copy)]
 pub struct List {
     pub base: usize,
     pub width: usize,
@@ -22,7 +22,7 @@ pub struct List {
 }
 
 // The three lists of a node; its internal places stand one after another.
-#[derive(Drop)]
+#[derive(Clone, Copy)]
 pub struct Node {
     pub entries: List,
     pub exits: List,

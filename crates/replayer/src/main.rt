@@ -9,26 +9,26 @@ const PLAN_ROOM: usize = field::PLAN_LIMIT + 1;
 
 const RECORD_ROOM: usize = field::RECORD_LIMIT + 1;
 
-fn tell(plan: &[u8], record: &[u8]) {
+fn tell(rt: &impl Print, plan: &[u8], record: &[u8]) {
     let mut marking = [0u8; field::PLACE_LIMIT];
     match replay::replay(plan, record, &mut marking) {
-        Ran::Finished(steps) => console::say_finished(steps),
-        Ran::Unfinished(steps) => console::say_unfinished(steps),
-        Ran::Refused(number, carried, steps) => console::say_stopped(number, carried, steps),
+        Ran::Finished(steps) => console::say_finished(rt, steps),
+        Ran::Unfinished(steps) => console::say_unfinished(rt, steps),
+        Ran::Refused(number, carried, steps) => console::say_stopped(rt, number, carried, steps),
     }
-    console::say(b"\n");
+    console::say(rt, b"\n");
 }
 
-fn main() {
+fn main(rt: HostRuntime) {
     let mut plan = [0u8; PLAN_ROOM];
     let mut record = [0u8; RECORD_ROOM];
-    let Input::Bytes(n) = console::read_file(b"plan", &mut plan) else {
-        console::say(b"no file\n");
+    let Input::Bytes(n) = console::read_file(&rt, "plan", &mut plan) else {
+        console::say(&rt, b"no file\n");
         return;
     };
-    let Input::Bytes(m) = console::read_file(b"record", &mut record) else {
-        console::say(b"no file\n");
+    let Input::Bytes(m) = console::read_file(&rt, "record", &mut record) else {
+        console::say(&rt, b"no file\n");
         return;
     };
-    tell(&plan[..n], &record[..m]);
+    tell(&rt, &plan[..n], &record[..m]);
 }

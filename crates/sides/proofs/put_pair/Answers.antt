@@ -1,0 +1,19 @@
+-- `put_pair` meets its contract: the part is cut where the first list ends.
+-- Assumes nothing.
+use native.Mathlib.Omega.{arith}
+use mathlib.Core.Path.{sym}
+use lib.Seq.{length-take-le}
+use Rattle.sides.proofs.Sides.{pair_placed}
+use Rattle.sides.proofs.put_pair.Goals as goal
+
+pub slice_bounds-put_one-end-2 : goal.slice_bounds-put_one-end-2
+slice_bounds-put_one-end-2 c =
+    sym (length-take-le c.args.m c.args.part.now (omega arith))
+
+pub put_one-requires : goal.put_one-requires
+put_one-requires c =
+    (c.requires.0, omega (arith, length-take-le c.args.m c.args.part.now (omega arith)))
+
+pub returns : goal.returns
+returns c =
+    pair_placed c.args.lists.now c.args.index.now c.args.side c.args.i c.args.j c.args.part.now c.requires.2 c.requires.3 c.put_one.ensures c.put_one-2.ensures
