@@ -1,7 +1,6 @@
 -- The calculus and the box agree: demand 3 on the definitions. For every expression whose loop bodies are exclusive and whose
 -- scope bytes are not 0; nothing else is assumed, neither a limit nor that a marking is reached in any other way than by the steps named.
-use Prim.Native.Nat.{ℕ, suc, ◌≤◌}
-use native.Mathlib.Omega.{arith}
+use Prim.Native.Nat.{ℕ, suc}
 use mathlib.Core.Path.{◌≡◌, refl, sym, ◌∙◌, ap, subst}
 use mathlib.Core.Logic.{◌⊎◌, inl, inr, ◌↔◌}
 use mathlib.Core.Bool.{Bool, true, false, cond}
@@ -9,13 +8,13 @@ use mathlib.Core.List.Memᴰ
 use mathlib.Core.List.{List, [], ◌∷◌, ◌++◌, Memᴰ}
 use lib.ListN.{replicate}
 use lib.Dec.{T, leb}
-use Rattle.field.specs.Answer.{Answer, good, refused}
+use Rattle.field.specs.Answer.{good, refused}
 use Rattle.field.proofs.Answers.{good_not_refused}
 use Rattle.algebra.specs.Expr.{Expr}
 use Rattle.algebra.specs.Item.{Item}
 use Rattle.algebra.specs.Exclusive.{LoopsExclusive}
 use Rattle.algebra.specs.Scopes.{ScopesNamed}
-use Rattle.algebra.specs.Net.{Transition, Net}
+use Rattle.algebra.specs.Net.{Transition}
 use Rattle.field.specs.Lists.{all}
 use Rattle.algebra.specs.Marking.{entry_marking, exits_marked}
 use Rattle.algebra.specs.Places.{places}
@@ -23,12 +22,12 @@ use Rattle.algebra.specs.Transitions.{Labelled, transitions}
 use Rattle.algebra.specs.Arcs.{transition_of, net_of}
 use Rattle.algebra.specs.Firing.{marked, fire_items, enabled_from}
 use Rattle.algebra.proofs.FiringRefused.{FireRefused, of_31, of_32, of_33, of_36, fire_refused}
-use Rattle.algebra.specs.Dynamic.{Dynamic, started, finished, Equal}
+use Rattle.algebra.specs.Dynamic.{Dynamic, started, Equal}
 use Rattle.algebra.specs.Steps.{Bag, Step, in_any_order}
-use Rattle.algebra.specs.Derived.{Derives, Derived}
+use Rattle.algebra.specs.Derived.{Derived}
 use Rattle.algebra.specs.InOrder.{fire_in_order}
 use Rattle.algebra.proofs.Marks.{marking_of, marking_flat, started_marking, finished_marking, equal_marking, exits_finished}
-use Rattle.algebra.proofs.FiringIsDerived.{checked_derives, fires_derives, derives_fires, finished_stuck}
+use Rattle.algebra.proofs.FiringIsDerived.{checked_derives, derives_fires, finished_stuck}
 use Rattle.algebra.proofs.RecordsAgree.{LeadsTo, fired_derived, derived_fired, derived_marking, derived_equal}
 use Rattle.algebra.proofs.ListedItems.{Listed, listed_of}
 use Rattle.algebra.proofs.ListedIsDerivable.{listed_iff}

@@ -1,6 +1,5 @@
 -- The places of an expression as types, one for each of the three lists of "Box construction", so that a place can be taken apart by cases.
 -- A code says how a list was made: `sum` joins two lists, `prod` is a product.
-use Prim.Native.Nat.{ℕ}
 use mathlib.Core.Logic.{◌⊎◌, inl, inr}
 use Rattle.algebra.specs.Expr.{Expr, action, sequence, choice, parallel, loop, scope}
 

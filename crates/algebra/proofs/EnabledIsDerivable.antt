@@ -1,7 +1,6 @@
 -- The enabled list at a marking that steps have reached has the numbers of exactly those transitions whose step of one item the rules derive next.
 -- True because a marked transition's step is derived, and a derived step fires, so that every input of the transition that it names is marked.
-use Prim.Native.Nat.{ℕ, zero, suc, ◌+◌, ◌≤◌}
-use native.Mathlib.Omega.{arith}
+use Prim.Native.Nat.{ℕ, suc}
 use mathlib.Core.Path.{◌≡◌, refl, sym, ◌∙◌, ap, subst}
 use mathlib.Core.Logic.{◌⊎◌, inl, inr, ◌↔◌}
 use mathlib.Core.Bool.{Bool, true, false, cond}
@@ -27,10 +26,10 @@ use Rattle.algebra.specs.Dynamic.{Dynamic}
 use Rattle.algebra.specs.Steps.{Step}
 use Rattle.algebra.specs.Derived.{Derived}
 use Rattle.algebra.proofs.Marks.{marking_of}
-use Rattle.algebra.proofs.Named.{Names, NamedAll, no_more, one_more, all_named}
-use Rattle.algebra.proofs.Fires.{Fires, fires_of}
+use Rattle.algebra.proofs.Named.{NamedAll, one_more, all_named}
+use Rattle.algebra.proofs.Fires.{fires_of}
 use Rattle.algebra.proofs.FiringIsDerived.{enabled_derives, derives_fires}
-use Rattle.algebra.proofs.Agreement.{FiredTo, net, one_state}
+use Rattle.algebra.proofs.Agreement.{FiredTo, one_state}
 
 -- The transition that has the number k, in a list whose first has the number j.
 unfoldable pub Numbered : ℕ → List Transition → ℕ → Transition → Type 0

@@ -2,21 +2,21 @@
 -- Where a place holds at most one token, "every input is marked" and "no input is shared" say just this.
 use Prim.Native.Nat.{ℕ, zero, suc, ◌+◌, ◌≤◌}
 use native.Mathlib.Omega.{arith}
-use mathlib.Core.Path.{◌≡◌, refl, sym, ◌∙◌, ap, subst}
-use mathlib.Core.Bool.{Bool, true, false, cond, not}
+use mathlib.Core.Path.{◌≡◌, refl, sym, ap, subst}
+use mathlib.Core.Bool.{Bool, true, false, cond}
 use mathlib.Core.List.Memᴰ
 use mathlib.Core.List.{List, [], ◌∷◌, ◌++◌, Memᴰ}
 use mathlib.Core.Logic.{◌⊎◌, inl, inr}
 use lib.ListN.{get_or}
 use lib.Dec.{T, eqb, leb, eqb→eq, eqb_refl, leb→le, le→leb}
-use Rattle.field.specs.Answer.{Answer, good, refused, ◌>>=◌, check}
+use Rattle.field.specs.Answer.{good}
 use Rattle.field.specs.Refusals.{input_empty, input_shared}
 use Rattle.field.proofs.Answers.{check_good}
 use Rattle.field.proofs.Tests.{T_true, true_T}
 use Rattle.algebra.specs.Net.{Transition}
 use Rattle.field.specs.Lists.{all}
 use Rattle.field.proofs.Alls.{all_of, all_at}
-use Rattle.algebra.specs.Firing.{marked, check_marked, count, check_apart, inputs_at, outputs_at, moved}
+use Rattle.algebra.specs.Firing.{marked, check_marked, count, check_apart, inputs_at}
 
 -- how often a number stands in a list
 pub count_here : (p : ℕ) (l : List ℕ) → count p (p ∷ l) ≡ suc (count p l)

@@ -3,9 +3,9 @@
 use Prim.Native.Nat.{ℕ}
 use mathlib.Core.Path.{◌≡◌, refl, sym, ◌∙◌, ap, ap₂, fun_ext}
 use mathlib.Core.Logic.{◌⊎◌, inl, inr}
-use Rattle.algebra.specs.Expr.{Expr, action, sequence, choice, parallel, loop, scope}
+use Rattle.algebra.specs.Expr.{Expr}
 use Rattle.algebra.specs.Dynamic.{Dynamic, Equal, same, back, then, in_sequence_first, in_sequence_second, in_choice_first, in_choice_second, in_parallel, in_loop_first, in_loop_body, in_loop_last, in_scope, sequence_starts, sequence_goes_on, sequence_finishes, choice_starts_first, choice_starts_second, choice_first_finishes, choice_second_finishes, parallel_starts, parallel_finishes, loop_starts, loop_enters, loop_repeats, loop_leaves, loop_finishes, scope_starts, scope_finishes}
-use Rattle.algebra.proofs.Tokens.{Tokens, none, every, either, first_of_sequence, second_of_sequence, first_of_choice, second_of_choice, both_of_parallel, first_of_loop, body_of_loop, last_of_loop, inside_scope, tokens}
+use Rattle.algebra.proofs.Tokens.{none, every, either, first_of_sequence, second_of_sequence, first_of_choice, second_of_choice, both_of_parallel, first_of_loop, body_of_loop, last_of_loop, inside_scope, tokens}
 
 -- a constant on both parts is that constant
 either_same : {A B : Type 0} (f : A ⊎ B → ℕ) → f ≡ either (λ a. f (inl a)) (λ b. f (inr b))

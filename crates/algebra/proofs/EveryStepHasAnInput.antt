@@ -5,7 +5,7 @@ use native.Mathlib.Omega.{arith}
 use native.Mathlib.Decide.{dec_lt}
 use mathlib.Core.Path.{◌≡◌, refl}
 use mathlib.Core.Logic.{◌⊎◌, inl, inr, ⊎_elim}
-use mathlib.Core.Bool.{Bool, false, ◌||◌, not, ◌&&◌}
+use mathlib.Core.Bool.{Bool, false, ◌||◌}
 use mathlib.Core.List.Memᴰ
 use mathlib.Core.List.{List, ◌++◌, append_assoc, Memᴰ}
 use lib.ListN.{length}
@@ -13,7 +13,7 @@ use lib.Dec.{T, eqb}
 use Rattle.algebra.specs.Expr.{Expr, action, sequence, choice, parallel, loop, scope, actions}
 use Rattle.algebra.specs.Item.{Item, one, two, first}
 use Rattle.algebra.specs.Places.{Place, sequence_place, choice_entry, choice_exit, pair, loop_of, product, entries, exits, internals, places}
-use Rattle.algebra.specs.Transitions.{Labelled, labelled, kept, joined, transitions}
+use Rattle.algebra.specs.Transitions.{Labelled, kept, joined, transitions}
 use Rattle.algebra.specs.Arcs.{consumes, produces, by_item, transition_of}
 use Rattle.field.proofs.Tests.{or_left, or_right, eqb_of}
 use Rattle.algebra.proofs.Members.{kept_member, joined_member}

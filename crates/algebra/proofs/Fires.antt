@@ -1,13 +1,12 @@
 -- What a good firing says, and when a firing is good: the definition of `fire-items` taken apart and put together.
 -- The marking afterwards is, place by place, what was there less what the items take plus what they give.
-use Prim.Native.Nat.{ℕ, zero, suc, ◌+◌, ◌-◌, ◌≤◌, ◌<◌}
+use Prim.Native.Nat.{ℕ, zero, suc, ◌+◌, ◌-◌, ◌<◌}
 use native.Mathlib.Omega.{arith}
-use mathlib.Core.Path.{◌≡◌, refl, sym, ◌∙◌, ap}
-use mathlib.Core.Bool.{Bool, true}
+use mathlib.Core.Path.{◌≡◌, refl, ap}
 use mathlib.Core.List.{List, [], ◌∷◌}
 use lib.ListN.{length, get_or}
 use lib.Dec.{T, leb}
-use Rattle.field.specs.Answer.{Answer, good, refused, ◌>>=◌, ◌>>◌, check}
+use Rattle.field.specs.Answer.{good}
 use Rattle.field.specs.Refusals.{two_tokens}
 use Rattle.field.proofs.Answers.{bind_good, check_good, good_same}
 use Rattle.field.proofs.Tests.{T_true, true_T}

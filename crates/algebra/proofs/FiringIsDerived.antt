@@ -1,17 +1,17 @@
 -- A step fires at the marking of a state exactly when the state derives it, and the marking afterwards is that of the state it becomes.
 -- By the arcs of its items a step takes at each place what its actions take there (ItemFlows); facts 6, 7 and 9 do the rest.
-use Prim.Native.Nat.{ℕ, zero, suc, ◌+◌, ◌-◌, ◌≤◌, ◌<◌}
+use Prim.Native.Nat.{ℕ, zero, suc, ◌+◌, ◌≤◌, ◌<◌}
 use native.Mathlib.Omega.{arith}
 use native.Mathlib.Decide.{dec_lt}
 use mathlib.Core.Path.{◌≡◌, refl, sym, ◌∙◌, ap, subst}
 use mathlib.Core.Logic.{◌⊎◌, inl, inr}
 use mathlib.Core.Bool.{Bool, true, false, cond}
 use mathlib.Core.List.Memᴰ
-use mathlib.Core.List.{List, [], ◌∷◌, map, Memᴰ}
-use lib.ListN.{length, get_or, get_or-eq_default}
+use mathlib.Core.List.{List, [], ◌∷◌, Memᴰ}
+use lib.ListN.{length, get_or}
 use lib.Seq.{ext_get_or}
 use lib.Dec.{T, leb}
-use Rattle.field.specs.Answer.{Answer, good, refused}
+use Rattle.field.specs.Answer.{good}
 use Rattle.algebra.specs.Expr.{Expr, actions}
 use Rattle.algebra.specs.Item.{Item, first}
 use Rattle.algebra.specs.Exclusive.{LoopsExclusive}
@@ -25,7 +25,7 @@ use Rattle.algebra.proofs.EveryStepHasAnInput.{first_in_range}
 use Rattle.algebra.specs.Firing.{transitions_named, marked, check_marked, check_apart, count, inputs_at, outputs_at, moved, fire_items}
 use Rattle.algebra.proofs.Named.{Names, NamedAll, no_more, one_more, all_named, named_good}
 use Rattle.algebra.proofs.Enough.{OnceEach, marked_at, checked_enough, enough_checked, count_here, count_other}
-use Rattle.algebra.proofs.Fires.{moved_length, moved_at, Fires, fires_of, of_fires}
+use Rattle.algebra.proofs.Fires.{moved_length, moved_at, fires_of, of_fires}
 use Rattle.algebra.specs.Dynamic.{Dynamic, finished, Equal}
 use Rattle.algebra.specs.Steps.{Step}
 use Rattle.algebra.proofs.Lists.{AllOf}
@@ -42,7 +42,7 @@ use Rattle.algebra.proofs.EnabledIsDerived.{enabled_flat}
 use Rattle.algebra.proofs.ListedItems.{Listed, listed_of, listed_in_range}
 use Rattle.algebra.proofs.StepsByItems.{item_times, item_has_first, times, step_flat, flat_step}
 use Rattle.algebra.proofs.Marks.{at, marking_of, marking_length, Stands, stands, stands_at, number_below, marking_safe, marking_flat}
-use Rattle.algebra.proofs.ItemFlows.{Moves, flat_moves, enabled_of, taken_sum, given_sum, bit, item_takes, item_gives}
+use Rattle.algebra.proofs.ItemFlows.{flat_moves, enabled_of, taken_sum, given_sum, bit, item_takes, item_gives}
 
 -- ---- how often a place number is among the numbers of the places that pass
 count_before : (f : Place → Bool) (k p : ℕ) (ps : List Place) → p < k → count p (numbers f k ps) ≡ 0

@@ -1,11 +1,11 @@
 -- Facts 4 and 5: where all exits hold a token the state is ≡ finished, and nothing else holds one; where all entries do it is ≡ started.
 -- By cases on the state: an operand that is not active has an empty exit, and there is always an exit to look at.
-use Prim.Native.Nat.{ℕ, ◌≤◌}
+use Prim.Native.Nat.{◌≤◌}
 use native.Mathlib.Omega.{arith}
 use mathlib.Core.Path.{◌≡◌, ap}
-use mathlib.Core.Logic.{◌⊎◌, inl, inr}
-use Rattle.algebra.specs.Expr.{Expr, action, sequence, choice, parallel, loop, scope}
-use Rattle.algebra.specs.Dynamic.{Dynamic, started, finished, sequence_first, sequence_second, choice_first, choice_second, parallel_both, loop_first, loop_body, loop_last, scope_inside, Equal, same, back, then, in_sequence_first, in_sequence_second, in_choice_first, in_choice_second, in_parallel, in_loop_first, in_loop_body, in_loop_last, in_scope, sequence_starts, sequence_goes_on, sequence_finishes, choice_starts_first, choice_starts_second, choice_first_finishes, choice_second_finishes, parallel_starts, parallel_finishes, loop_starts, loop_finishes, scope_starts, scope_finishes}
+use mathlib.Core.Logic.{inl, inr}
+use Rattle.algebra.specs.Expr.{Expr}
+use Rattle.algebra.specs.Dynamic.{Dynamic, started, finished, sequence_first, sequence_second, choice_first, choice_second, parallel_both, loop_first, loop_body, loop_last, scope_inside, Equal, same, back, then, in_sequence_first, in_sequence_second, in_choice_first, in_choice_second, in_parallel, in_loop_first, in_loop_last, in_scope, sequence_starts, sequence_finishes, choice_starts_first, choice_starts_second, choice_first_finishes, choice_second_finishes, parallel_starts, parallel_finishes, loop_starts, loop_finishes, scope_starts, scope_finishes}
 use Rattle.algebra.proofs.Codes.{Entry, Internal, Exit, some_entry, some_exit}
 use Rattle.algebra.proofs.Tokens.{tokens}
 use Rattle.algebra.proofs.EqualKeepsTokens.{equal_tokens}

@@ -1,12 +1,12 @@
 -- What an item takes from a place by its arcs is what its actions take: one token or none, also where two actions are joined.
 -- Each listed item is a step of some state, which has at most one token to give at every place; so its actions share no place.
-use Prim.Native.Nat.{ℕ, ◌+◌, ◌≤◌, ◌<◌}
+use Prim.Native.Nat.{ℕ, ◌+◌, ◌≤◌}
 use native.Mathlib.Omega.{arith}
-use mathlib.Core.Path.{◌≡◌, refl, sym, ◌∙◌, ap, subst}
-use mathlib.Core.Logic.{◌⊎◌, inl, inr}
+use mathlib.Core.Path.{◌≡◌, refl, sym, ◌∙◌, subst}
+use mathlib.Core.Logic.{inl, inr}
 use mathlib.Core.Bool.{Bool, true, false, cond, ◌||◌}
 use lib.Dec.{T, eqb, eqb→eq, eqb_refl}
-use Rattle.algebra.specs.Expr.{Expr, actions}
+use Rattle.algebra.specs.Expr.{Expr}
 use Rattle.algebra.specs.Item.{Item, one, two}
 use Rattle.algebra.specs.Exclusive.{LoopsExclusive}
 use Rattle.algebra.specs.Scopes.{ScopesNamed}

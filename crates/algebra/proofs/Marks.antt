@@ -1,10 +1,10 @@
 -- The marking of a dynamic expression as a list, in the order of the places, and what is known of its tokens said by place numbers.
 -- A place's number is the position of its name, so what holds of every typed place holds at every number.
-use Prim.Native.Nat.{ℕ, zero, suc, ◌+◌, ◌≤◌, ◌<◌}
+use Prim.Native.Nat.{ℕ, ◌+◌, ◌≤◌, ◌<◌}
 use native.Mathlib.Omega.{arith}
 use native.Mathlib.Decide.{dec_lt}
 use mathlib.Core.Path.{◌≡◌, refl, sym, ◌∙◌, ap, ap₂, subst, fun_ext}
-use mathlib.Core.Logic.{◌⊎◌, inl, inr}
+use mathlib.Core.Logic.{inl, inr}
 use mathlib.Core.List.Memᴰ
 use mathlib.Core.List.{List, [], ◌∷◌, ◌++◌, map, append_assoc}
 use lib.ListN.{length, get_or, replicate, drop, length-append, get_or-eq_default}
@@ -12,15 +12,14 @@ use lib.Seq.{drop_at}
 use lib.Dec.{T, leb, leb→le, le→leb}
 use Rattle.algebra.specs.Expr.{Expr}
 use Rattle.algebra.specs.Exclusive.{LoopsExclusive}
-use Rattle.algebra.specs.Net.{Net}
 use Rattle.field.specs.Lists.{all}
 use Rattle.algebra.specs.Marking.{entry_marking, exits_marked}
 use Rattle.field.proofs.Alls.{all_of, all_at}
-use Rattle.algebra.specs.Places.{Place, entry, entries, internals, exits, places}
+use Rattle.algebra.specs.Places.{entry, entries, internals, places}
 use Rattle.algebra.specs.Arcs.{net_of}
 use Rattle.algebra.specs.Dynamic.{Dynamic, started, finished, Equal}
 use Rattle.algebra.proofs.Codes.{Code, El, entry_code, internal_code, exit_code, Exit}
-use Rattle.algebra.proofs.Tokens.{Tokens, none, every, tokens}
+use Rattle.algebra.proofs.Tokens.{Tokens, tokens}
 use Rattle.algebra.proofs.EqualKeepsTokens.{equal_tokens}
 use Rattle.algebra.proofs.SameTokensAreEqual.{tokens_equal}
 use Rattle.algebra.proofs.Safe.{ends_safe, internals_safe}

@@ -1,14 +1,13 @@
 -- 31 over all items: every item names a transition exactly when the transitions of the step are found, each with its item's actions.
 -- Both follow the list of items; an item names a transition when their actions are the same numbers.
 use Prim.Native.Nat.{ℕ, suc}
-use native.Mathlib.Omega.{arith}
 use mathlib.Core.Path.{◌≡◌, refl, sym, subst}
 use mathlib.Core.Bool.{Bool, true, false, cond}
 use mathlib.Core.List.Memᴰ
 use mathlib.Core.List.{List, [], ◌∷◌, Memᴰ}
 use mathlib.Core.Logic.{◌⊎◌, inl, inr}
 use lib.Dec.{T}
-use Rattle.field.specs.Answer.{Answer, good, refused, ◌>>=◌}
+use Rattle.field.specs.Answer.{good, refused}
 use Rattle.field.proofs.Answers.{bind_good, good_not_refused, good_same}
 use Rattle.field.proofs.Tests.{true_T}
 use Rattle.algebra.specs.Item.{Item, same_item}

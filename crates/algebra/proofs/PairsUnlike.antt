@@ -4,10 +4,10 @@ use Prim.Native.Nat.{ℕ, ◌+◌, ◌≤◌, ◌<◌}
 use native.Mathlib.Omega.{arith}
 use mathlib.Core.Path.{◌≡◌, refl, sym, ◌∙◌, ap, subst}
 use mathlib.Core.Logic.{◌⊎◌, inl, inr, ⊎_elim}
-use mathlib.Core.Bool.{Bool, true, false, cond, not, ◌&&◌}
+use mathlib.Core.Bool.{Bool, true, false, cond, not}
 use mathlib.Core.List.Memᴰ
 use mathlib.Core.List.{List, [], ◌∷◌, ◌++◌, map, Memᴰ}
-use lib.Dec.{T, T_not, not_T, eqb, eqb→eq}
+use lib.Dec.{T, T_not, eqb→eq}
 use Rattle.algebra.specs.Expr.{Expr, action, sequence, choice, parallel, loop, scope, actions}
 use Rattle.algebra.specs.Item.{Item, one, two, first}
 use Rattle.algebra.specs.Scopes.{ScopesNamed}
@@ -16,7 +16,7 @@ use Rattle.algebra.specs.Transitions.{Labelled, Pair, paired, silent, labelled, 
 use Rattle.field.proofs.Tests.{and_parts}
 use Rattle.algebra.proofs.Members.{select_member, JoinedOf, joined_member}
 use Rattle.algebra.proofs.Products.{product_member}
-use Rattle.algebra.proofs.EveryStepHasAnInput.{InRange, first_in_range, items_in_range}
+use Rattle.algebra.proofs.EveryStepHasAnInput.{first_in_range, items_in_range}
 
 -- No two elements of a list have the same key.
 abbrev pub Differ : {A K : Type 0} → (A → K) → List A → Type 0

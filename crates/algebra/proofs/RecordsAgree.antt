@@ -1,9 +1,9 @@
 -- Steps in order: they fire one after another from the marking of a state exactly when the state derives them in that order.
 -- An induction over the steps: the marking after each is the marking of the state it leads to.
 use Prim.Native.Nat.{ℕ}
-use mathlib.Core.Path.{◌≡◌, refl, sym, ◌∙◌, ap, subst}
+use mathlib.Core.Path.{◌≡◌, refl, sym, ◌∙◌, subst}
 use mathlib.Core.List.{List, [], ◌∷◌}
-use Rattle.field.specs.Answer.{Answer, good, refused, ◌>>=◌}
+use Rattle.field.specs.Answer.{good}
 use Rattle.field.proofs.Answers.{bind_good, good_same}
 use Rattle.algebra.specs.Expr.{Expr}
 use Rattle.algebra.specs.Item.{Item}

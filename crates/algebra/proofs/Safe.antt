@@ -1,11 +1,11 @@
 -- Facts 2 and 3: an exclusive expression never has a token on an entry and on an exit at once, and no place ever holds two.
 -- Only the place where a loop's body meets itself adds two numbers, and there the body is exclusive.
-use Prim.Native.Nat.{ℕ, ◌+◌, ◌≤◌}
+use Prim.Native.Nat.{◌+◌, ◌≤◌}
 use native.Mathlib.Omega.{arith}
-use mathlib.Core.Logic.{◌⊎◌, inl, inr}
+use mathlib.Core.Logic.{inl, inr}
 use lib.Dec.{T}
 use Rattle.field.proofs.Tests.{and_parts}
-use Rattle.algebra.specs.Expr.{Expr, action, sequence, choice, parallel, loop, scope}
+use Rattle.algebra.specs.Expr.{Expr}
 use Rattle.algebra.specs.Exclusive.{exclusive, LoopsExclusive}
 use Rattle.algebra.specs.Dynamic.{Dynamic, started, finished, sequence_first, sequence_second, choice_first, choice_second, parallel_both, loop_first, loop_body, loop_last, scope_inside}
 use Rattle.algebra.proofs.Codes.{Entry, Internal, Exit}

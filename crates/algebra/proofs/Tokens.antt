@@ -2,7 +2,7 @@
 -- This is the relation between a marking and a dynamic expression that every fact below is about.
 use Prim.Native.Nat.{ℕ, ◌+◌}
 use mathlib.Core.Logic.{◌⊎◌, inl, inr}
-use Rattle.algebra.specs.Expr.{Expr, action, sequence, choice, parallel, loop, scope}
+use Rattle.algebra.specs.Expr.{Expr, sequence, choice, parallel, loop, scope}
 use Rattle.algebra.specs.Dynamic.{Dynamic, started, finished, sequence_first, sequence_second, choice_first, choice_second, parallel_both, loop_first, loop_body, loop_last, scope_inside}
 use Rattle.algebra.proofs.Codes.{Entry, Internal, Exit}
 

@@ -1,5 +1,5 @@
 -- 01, "Box construction": which places a transition consumes from and produces into, and the net of an expression.
-use Rattle.std.specs.Prelude.{ℕ, suc, List, [], ◌∷◌, map, Bool, true, false, cond, ◌||◌, length, eqb}
+use Rattle.std.specs.Prelude.{ℕ, suc, List, [], ◌∷◌, map, Bool, false, cond, ◌||◌, length, eqb}
 use Rattle.algebra.specs.Expr.{Expr}
 use Rattle.algebra.specs.Item.{Item, one, two}
 use Rattle.algebra.specs.Net.{Transition, Net}

@@ -1,5 +1,5 @@
 -- The mission's demand 3: "the calculus's own rules .. derive the recorded steps in that order from the started plan".
-use Rattle.std.specs.Prelude.{ℕ, List, [], ◌∷◌}
+use Rattle.std.specs.Prelude.{List, [], ◌∷◌}
 use Rattle.algebra.specs.Expr.{Expr}
 use Rattle.algebra.specs.Item.{Item}
 use Rattle.algebra.specs.Dynamic.{Dynamic, started}

@@ -1,7 +1,7 @@
 -- 01, "Calculus rules, with no net": "Over- and underbars mark started and finished parts", and ≡, "the least congruence" with its equations.
 -- Nothing here knows of a place, a marking or a number of a place.
 use Rattle.std.specs.Prelude.{ℕ}
-use Rattle.algebra.specs.Expr.{Expr, action, sequence, choice, parallel, loop, scope}
+use Rattle.algebra.specs.Expr.{Expr, sequence, choice, parallel, loop, scope}
 
 -- A dynamic expression: the whole is started or finished, or one operand is active, and of a parallel both are.
 pub data Dynamic : Expr → Type 0 where

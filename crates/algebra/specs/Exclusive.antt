@@ -1,5 +1,5 @@
 -- 01, "Box construction": "A loop body must be exclusive".
-use Rattle.std.specs.Prelude.{ℕ, Bool, true, false, ◌&&◌, T}
+use Rattle.std.specs.Prelude.{Bool, true, false, ◌&&◌, T}
 use Rattle.algebra.specs.Expr.{Expr, action, sequence, choice, parallel, loop, scope}
 
 -- "an action; any sequence; any loop; a choice of two exclusive ones; a scope of an exclusive one. A parallel is not."

@@ -1,5 +1,5 @@
 -- 01, "Run records": when a step fires at a marking of a net, by its items, and the marking afterwards; "31 over all items, 32, 33, 36".
-use Rattle.std.specs.Prelude.{ℕ, zero, suc, ◌+◌, ◌-◌, List, [], ◌∷◌, ◌++◌, Bool, true, false, cond, get_or, eqb, leb}
+use Rattle.std.specs.Prelude.{ℕ, suc, ◌+◌, ◌-◌, List, [], ◌∷◌, ◌++◌, Bool, cond, get_or, eqb, leb}
 use Rattle.field.specs.Refusals.{no_transition, input_empty, input_shared, two_tokens}
 use Rattle.field.specs.Answer.{Answer, good, refused, ◌>>=◌, ◌>>◌, check}
 use Rattle.algebra.specs.Item.{Item, same_item}

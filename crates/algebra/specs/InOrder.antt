@@ -1,6 +1,6 @@
 -- Steps fired in order, each at the marking after the one before, up to the first refusal (01, "Refusal numbers": replay takes "each step in turn").
 use Rattle.std.specs.Prelude.{ℕ, List, [], ◌∷◌}
-use Rattle.field.specs.Answer.{Answer, good, refused, ◌>>=◌, ◌>>◌}
+use Rattle.field.specs.Answer.{Answer, good, ◌>>=◌}
 use Rattle.algebra.specs.Item.{Item}
 use Rattle.algebra.specs.Net.{Transition}
 use Rattle.algebra.specs.Firing.{fire_items}

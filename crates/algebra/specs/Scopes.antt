@@ -1,5 +1,5 @@
 -- 01, "Plan bytes": a scope's byte is "outside 1..127" refused, so no scope takes away what is silent. Here only that it is not 0.
-use Rattle.std.specs.Prelude.{ℕ, ◌≤◌}
+use Rattle.std.specs.Prelude.{◌≤◌}
 use Rattle.algebra.specs.Expr.{Expr, action, sequence, choice, parallel, loop, scope}
 
 abbrev pub ScopesNamed : Expr → Type 0

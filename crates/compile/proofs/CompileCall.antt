@@ -9,7 +9,7 @@ use lib.ListN.{length, drop, replicate, length-append, length-replicate}
 use lib.Seq.{sets}
 use lib.Dec.{leb, leb→le}
 use Rattle.field.specs.Refusals.{table_too_short}
-use Rattle.field.specs.Answer.{Answer, good, refused, ◌>>=◌, ◌>>◌, check}
+use Rattle.field.specs.Answer.{good, refused, ◌>>=◌, ◌>>◌, check}
 use Rattle.field.proofs.Tests.{and_parts, true_T}
 use Rattle.algebra.specs.Net.{Net}
 use Rattle.algebra.specs.Arcs.{net_of}

@@ -5,7 +5,7 @@ use mathlib.Core.Path.{◌≡◌, refl}
 use mathlib.Core.List.{List, [], ◌∷◌, map}
 use lib.ListN.{replicate}
 use Rattle.field.specs.Answer.{good, refused}
-use Rattle.algebra.specs.Expr.{Expr, action, sequence, parallel, loop}
+use Rattle.algebra.specs.Expr.{action, sequence, parallel, loop}
 use Rattle.plan.specs.Bytes.{encode}
 use Rattle.boxes.specs.Compile.{Lent, compile}
 use Rattle.enabling.specs.Enabled.{enabling, stuck}

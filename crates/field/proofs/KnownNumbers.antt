@@ -1,8 +1,7 @@
 -- 01's numbers as numbers: its table of refusals and its limits.
 -- By computation; everywhere else they have names, and a name that stood for another number would be seen here.
-use Prim.Native.Nat.{ℕ}
 use mathlib.Core.Path.{◌≡◌, refl}
-use mathlib.Core.List.{List, [], ◌∷◌}
+use mathlib.Core.List.{[], ◌∷◌}
 use Rattle.field.specs.Limits.{plan_limit, depth_limit, action_limit, place_limit, transition_limit, arc_limit, record_limit}
 use Rattle.field.specs.Refusals.{plan_too_long, field_cut, unknown_tag, wrong_body, too_deep, wrong_label, too_many_actions, operand_due, bytes_after, body_not_exclusive, too_many_places, too_many_transitions, too_many_arcs, table_too_short, record_too_long, record_field_cut, wrong_tag, wrong_length, not_rising, no_net, no_transition, input_empty, input_shared, no_marking, two_tokens}
 

@@ -1,6 +1,6 @@
 -- What the judgement leaves is what writing asks: the work tables are the plan's, each action's places are told, and the counts told are the net's.
 -- True because the list that is left is the plan's transitions, and the pass over the nodes tells of every action of the plan.
-use Prim.Native.Nat.{ℕ, zero, suc, ◌+◌, ◌-◌, ◌*◌, ◌≤◌, ◌<◌}
+use Prim.Native.Nat.{ℕ, zero, suc, ◌+◌, ◌*◌, ◌≤◌, ◌<◌}
 use native.Mathlib.Omega.{arith}
 use mathlib.Core.Path.{◌≡◌, refl, sym, ◌∙◌, ap, ap₂, subst}
 use mathlib.Core.Bool.{Bool, true, false}
@@ -17,7 +17,7 @@ use Rattle.algebra.specs.Expr.{Expr, actions}
 use Rattle.algebra.specs.Exclusive.{LoopsExclusive}
 use Rattle.algebra.specs.Scopes.{ScopesNamed}
 use Rattle.algebra.specs.Item.{Item, one, two, first}
-use Rattle.algebra.specs.Places.{entries, internals, exits, places}
+use Rattle.algebra.specs.Places.{places}
 use Rattle.algebra.specs.Transitions.{Labelled, transitions}
 use Rattle.algebra.specs.Arcs.{transition_of, net_of}
 use Rattle.algebra.proofs.EveryStepHasAnInput.{InRange, items_in_range}

@@ -2,16 +2,16 @@
 -- and 36 never come. The tables pass check 30, a reached marking has at most one token at every place, and what does not fire is refused with 31, 32 or 33.
 use Prim.Native.Nat.{ℕ, ◌+◌, ◌≤◌}
 use native.Mathlib.Omega.{arith}
-use mathlib.Core.Path.{◌≡◌, refl, sym, ◌∙◌, ap, ap₂, subst}
+use mathlib.Core.Path.{◌≡◌, refl, sym, ◌∙◌, ap, ap₂}
 use mathlib.Core.Bool.{true}
 use mathlib.Core.Logic.{◌⊎◌}
-use mathlib.Core.List.{List, [], ◌∷◌, ◌++◌}
+use mathlib.Core.List.{List, [], ◌++◌}
 use lib.ListN.{length, take, drop, replicate, length-append, length-drop, length-replicate}
 use lib.Seq.{take_at, drop-drop}
 use lib.Dec.{T, leb, le→leb}
 use contract.Lifetimes.{Lfts}
 use borrow.Fn.Kinds.{Dens}
-use Rattle.field.specs.Answer.{Answer, good, refused, ◌>>=◌, check}
+use Rattle.field.specs.Answer.{good, refused, ◌>>=◌, check}
 use Rattle.field.specs.Lists.{all}
 use Rattle.field.proofs.Tests.{T_true}
 use Rattle.field.proofs.OneResult.{Result, Allowed}
@@ -24,16 +24,15 @@ use Rattle.algebra.specs.Arcs.{net_of}
 use Rattle.algebra.specs.Marking.{entry_marking, exits_marked}
 use Rattle.algebra.specs.Firing.{fire_items, enabled_from}
 use Rattle.algebra.specs.InOrder.{fire_in_order}
-use Rattle.algebra.proofs.Marks.{marking_of, marking_length}
+use Rattle.algebra.proofs.Marks.{marking_length}
 use Rattle.algebra.proofs.Agreement.{one_state, safe_and_clean, next_refused}
 use Rattle.plan.proofs.Exact.{read_within}
 use Rattle.plan.proofs.Within.{limits_within}
 use Rattle.plan.proofs.Scopes.{named_scopes}
 use Rattle.plan.proofs.Loops.{loops_exclusive}
-use Rattle.net.specs.Tables.{Tables, kinds_of, transitions_in}
+use Rattle.net.specs.Tables.{Tables, kinds_of}
 use Rattle.net.specs.Lent.{lent}
 use Rattle.net.specs.Marking.{check_marking}
-use Rattle.net.specs.Check.{check_net}
 use Rattle.net.proofs.ReadTables.{lent_tables}
 use Rattle.boxes.specs.Compile.{accept}
 use Rattle.boxes.proofs.CountsCutOff.{net_places}

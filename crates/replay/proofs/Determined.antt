@@ -1,6 +1,6 @@
 -- `replay` asks nothing, and its contract determines its answer and every byte of the buffer.
 -- The contract equates both with a function of the input, and no two answers of the code say the same.
-use mathlib.Core.Path.{◌≡◌, refl, sym, ◌∙◌}
+use mathlib.Core.Path.{refl, sym, ◌∙◌}
 use contract.Lifetimes.{Lfts}
 use borrow.Fn.Kinds.{Dens}
 use Rattle.field.proofs.OneResult.{One, Allowed, Answered}

@@ -7,7 +7,7 @@ use mathlib.Core.List.{List, [], ◌∷◌}
 use lib.ListN.{length}
 use lib.Dec.{eqb, leb}
 use Rattle.field.specs.Refusals.{record_field_cut, wrong_tag, wrong_length, not_rising}
-use Rattle.field.specs.Answer.{Answer, good, refused, ◌>>=◌, ◌>>◌, check}
+use Rattle.field.specs.Answer.{Answer, good, refused, ◌>>=◌, check}
 use Rattle.field.specs.Field.{tag_of, length_of, body_of}
 use Rattle.algebra.specs.Item.{Item, first}
 use Rattle.form.specs.Form.{check_header, one_tag, two_tag, item_tag, action_count, item_spelt, read_item, read_items, StepRead, read_step, Recorded, ends, step, no_step, one_more, read_steps}

@@ -1,13 +1,13 @@
 -- What a run's verdict says of the firing of its steps: an accepted record fired them all in order; a refused one fired the steps told, and the next
 -- field is no step or does not fire. By the definition of a run, step by step.
-use Prim.Native.Nat.{ℕ, zero, suc, ◌+◌}
+use Prim.Native.Nat.{ℕ, suc, ◌+◌}
 use native.Mathlib.Omega.{arith}
 use mathlib.Core.Path.{◌≡◌, refl, ◌∙◌, ap}
 use mathlib.Core.Logic.{◌⊎◌, inl, inr}
 use mathlib.Core.Bool.{cond}
 use mathlib.Core.List.{List, [], ◌∷◌}
 use lib.ListN.{length}
-use Rattle.field.specs.Answer.{Answer, good, refused, ◌>>=◌}
+use Rattle.field.specs.Answer.{Answer, good, refused}
 use Rattle.field.proofs.Answers.{bind_good, good_same}
 use Rattle.algebra.specs.Item.{Item}
 use Rattle.algebra.specs.Net.{Net}
@@ -15,7 +15,7 @@ use Rattle.algebra.specs.Marking.{exits_marked}
 use Rattle.algebra.specs.Firing.{fire_items}
 use Rattle.algebra.specs.InOrder.{fire_in_order}
 use Rattle.form.specs.Form.{Recorded, ends, step, no_step}
-use Rattle.run.specs.Run.{Verdict, finished, unfinished, refusal, Run, go_on, run}
+use Rattle.run.specs.Run.{finished, unfinished, refusal, Run, go_on, run}
 use Rattle.replay.specs.Recorded.{steps_of, Whole, After, now, later}
 
 -- What a run of the record R at the marking m says, with k steps before it: either all its fields are steps, and they fired;

@@ -20,7 +20,7 @@ use Rattle.plan.specs.inner.Table.{tag_at, after_at, values}
 use Rattle.plan.proofs.Stands.{stands_take}
 use Rattle.plan.proofs.NodeValues.{table_node}
 use Rattle.boxes.specs.inner.NodeCounts.{box_counts, node_counts}
-use Rattle.arcs.specs.inner.Moves.{Kind, Entry, Internal, Exit, Operand, First, Second, Third, Move, passes, own, sequence_move, choice_move, parallel_move, loop_move}
+use Rattle.arcs.specs.inner.Moves.{Kind, Entry, Exit, Operand, First, Second, Third, Move, passes, own, sequence_move, choice_move, parallel_move, loop_move}
 use Rattle.boxes.specs.inner.Counted.{counts_at}
 use Rattle.arcs.specs.inner.Nodes.{At}
 use Rattle.arcs.specs.inner.Spreads.{Spreads, placed, plain, list_of, under}

@@ -3,19 +3,16 @@
 use Prim.Native.Nat.{ℕ, zero, suc, ◌+◌, ◌-◌, ◌*◌, ◌≤◌, ◌<◌}
 use native.Mathlib.Omega.{arith}
 use mathlib.Core.Path.{◌≡◌, refl, sym, ◌∙◌, ap, ap₂, subst}
-use mathlib.Core.Bool.{Bool, true, false}
 use mathlib.Core.List.{List, [], ◌∷◌, ◌++◌, map, append_assoc, Memᴰ}
 use lib.ListN.{length, get_or, take, drop, length-append}
 use lib.Seq.{sets, sets-eq, drop-drop}
-use lib.Dec.{eqb}
-use borrow.Author.Tests.{eqb-true}
 use Rattle.algebra.specs.Expr.{Expr}
 use Rattle.algebra.specs.Item.{first}
 use Rattle.algebra.specs.Net.{Transition}
 use Rattle.algebra.specs.Places.{places}
 use Rattle.algebra.specs.Transitions.{transitions}
 use Rattle.algebra.specs.Arcs.{transition_of, net_of}
-use Rattle.net.specs.Tables.{none, second, item_of, rows_from, arcs_from, rows_of, arcs_of}
+use Rattle.net.specs.Tables.{second, item_of, rows_from, arcs_from, rows_of, arcs_of}
 use Rattle.boxes.specs.inner.ArcCounts.{item_arcs}
 use Rattle.arcs.specs.declared.sides.Side.TheVariants.{Inputs, Outputs}
 use Rattle.sides.specs.inner.Sides.{told_count, told_arcs, Drafted, PlacedBoth}

@@ -4,7 +4,6 @@ use Rattle.field.specs.Limits.{place_limit, transition_limit, arc_limit}
 use Rattle.field.specs.Refusals.{too_many_places, too_many_transitions, too_many_arcs}
 use Rattle.field.specs.Answer.{Answer, good, ◌>>=◌, ◌>>◌, check}
 use Rattle.algebra.specs.Expr.{Expr}
-use Rattle.algebra.specs.Transitions.{transitions}
 use Rattle.plan.specs.Reading.{read_plan}
 use Rattle.plan.specs.Loops.{check_loops}
 use Rattle.boxes.specs.Counts.{places_cut_off, transition_count, arc_count}

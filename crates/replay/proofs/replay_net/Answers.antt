@@ -12,12 +12,12 @@ use Rattle.replay.proofs.replay_net.Goals as goal
 
 pub returns-then-not-has_room : goal.returns-then-not-has_room
 returns-then-not-has_room c =
-    λ N h.     let a = c.args in
+    λ N h. let a = c.args in
     no_room N a.places h.its_places a.«record».now a.marking.now c.has_room.result c.has_room.ensures c.if-not-has_room.true
 
 pub returns-then-record-gt-RECORD_LIMIT : goal.returns-then-record-gt-RECORD_LIMIT
 returns-then-record-gt-RECORD_LIMIT c =
-    λ N h.     let a = c.args in
+    λ N h. let a = c.args in
     let long : record_limit < length a.«record».now = omega arith in
     too_long N a.places h.its_places a.«record».now a.marking.now c.has_room.result c.has_room.ensures c.if-not-has_room.false long
 
@@ -42,7 +42,7 @@ run_from_entries-requires c =
 
 pub returns : goal.returns
 returns c =
-    λ N h.     let a = c.args in
+    λ N h. let a = c.args in
     let room = c.if-not-has_room.false in
     let part = length-take-le a.places a.marking.now (reaches a.places a.marking.now c.has_room.result c.has_room.ensures room) in
     let short : length a.«record».now ≤ record_limit = omega arith in

@@ -19,7 +19,7 @@ replay_net-requires c =
 
 pub returns : goal.returns
 returns c =
-    λ plan t.     let p = c.put_transitions in
+    λ plan t. let p = c.put_transitions in
     let q = c.replay_net in
     let w = its_net t in
     plan_made plan c.args.«record».now c.args.marking.now w.expr w.accepts q.result _

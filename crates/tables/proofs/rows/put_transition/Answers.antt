@@ -2,13 +2,10 @@
 -- How long that part is is told of the item's two sides. Assumes nothing.
 use Prim.Native.Nat.{◌+◌, ◌-◌}
 use native.Mathlib.Omega.{arith}
-use mathlib.Core.Path.{◌≡◌, refl}
+use mathlib.Core.Path.{refl}
 use lib.ListN.{drop, length-drop}
 use lib.Seq.{length-take-le}
-use Rattle.boxes.specs.inner.ArcCounts.{item_arcs}
 use Rattle.arcs.specs.declared.sides.Side.TheVariants.{Inputs, Outputs}
-use Rattle.sides.specs.inner.Sides.{told_arcs}
-use Rattle.tables.specs.inner.Rows.{item_at}
 use Rattle.tables.proofs.Counted.{side_told, sides_told}
 use Rattle.tables.proofs.Puts.{transition_put}
 use Rattle.tables.proofs.rows.put_transition.Goals as goal
