@@ -20,7 +20,7 @@ NAME = r"[A-Za-z][^\s(){}\[\],;.:]*"
 SIGNATURE = re.compile(rf"^\s*(?:(?:abbrev|unfoldable|pub|data|record)\s+)*({NAME}(?: {NAME})*)\s*:(?=\s)", re.M)
 ALIAS = re.compile(r"^use \S+ as (\S+)$", re.M)
 IMPORT = re.compile(r"use ([^\s{}]+)\.\{([^}]*)\}")
-TOKEN = re.compile(r"[^\s(){}\[\];,.«»]+")
+TOKEN = re.compile(r"[^\s(){}\[\];,.«»`]+")
 
 
 def files(end):

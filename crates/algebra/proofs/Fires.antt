@@ -1,4 +1,4 @@
--- What a good firing says, and when a firing is good: the definition of `fire-items` taken apart and put together.
+-- What a good firing says, and when a firing is good: the definition of `fire_items` taken apart and put together.
 -- The marking afterwards is, place by place, what was there less what the items take plus what they give.
 use Prim.Native.Nat.{ℕ, zero, suc, ◌+◌, ◌-◌, ◌<◌}
 use native.Mathlib.Omega.{arith}

@@ -1,4 +1,4 @@
--- What the code counts for each tag is what `counts-by` says, and no sum or product on the way is too large.
+-- What the code counts for each tag is what `counts_by` says, and no sum or product on the way is too large.
 -- True by the tests that led there, each of which settles one test of the definition; a product of four numbers of 16 bits fits 64.
 use Prim.Native.Nat.{ℕ, ◌+◌, ◌*◌, ◌≤◌}
 use native.Mathlib.Omega.{arith}

@@ -1,5 +1,5 @@
 -- The answers of `enabled`, each with the list that goes with it, for every input.
--- Each is what `list-enabled` gives after the checks so far; on refusal nothing is written, and what lies behind the list stays.
+-- Each is what `list_enabled` gives after the checks so far; on refusal nothing is written, and what lies behind the list stays.
 use Prim.Native.Nat.{ℕ, ◌≤◌}
 use mathlib.Core.Path.{◌≡◌, sym, ap, ◌∙◌}
 use mathlib.Core.List.{List, [], ◌∷◌, ◌++◌}

@@ -1,4 +1,4 @@
--- The answer of `read-item` after each of its tests, and of `step-head` after each of its own.
+-- The answer of `read_item` after each of its tests, and of `step_head` after each of its own.
 -- True by the definitions: a test that failed is the answer, and one that passed hands on to the next.
 use Prim.Native.Nat.{ℕ, ◌+◌, ◌-◌, ◌≤◌, ◌<◌}
 use mathlib.Core.Path.{◌≡◌, refl}

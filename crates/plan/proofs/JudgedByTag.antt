@@ -1,4 +1,4 @@
--- What the code answers for each tag is what `exclusive-by` and `fault-by` say.
+-- What the code answers for each tag is what `exclusive_by` and `fault_by` say.
 -- True by the tests that led there: each settles one test of the definition.
 use Prim.Native.Nat.{ℕ, ◌+◌, ◌*◌, ◌≤◌, ◌<◌}
 use mathlib.Core.Path.{◌≡◌, refl, sym, ◌∙◌, ap}

@@ -1,5 +1,5 @@
 -- The answers of `fire`, each with the marking that goes with it, for every input.
--- Each is what `fire-step` gives after the checks so far; on refusal the marking is as it was, and what lies past the net's part stays.
+-- Each is what `fire_step` gives after the checks so far; on refusal the marking is as it was, and what lies past the net's part stays.
 use Prim.Native.Nat.{ℕ}
 use mathlib.Core.Path.{◌≡◌, sym, ap, subst, ◌∙◌}
 use mathlib.Core.List.{List, ◌++◌}

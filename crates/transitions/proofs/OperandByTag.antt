@@ -1,4 +1,4 @@
--- What the code answers for each tag is the operand that `operand-by` names.
+-- What the code answers for each tag is the operand that `operand_by` names.
 -- True by the tests that led there: each settles one test of the definition.
 use Prim.Native.Nat.{ℕ, ◌+◌, ◌*◌, ◌≤◌, ◌<◌}
 use native.Mathlib.Omega.{arith}

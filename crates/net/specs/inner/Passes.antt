@@ -1,4 +1,4 @@
--- The passes in which check 30 is made, as the functions below `is_net` make them; that they come to `is-net` is shown of them.
+-- The passes in which check 30 is made, as the functions below `is_net` make them; that they come to `is_net` is shown of them.
 use Rattle.std.specs.Prelude.{ℕ, zero, suc, ◌+◌, min, ◌<◌, List, [], ◌∷◌, map, Bool, true, not, ◌&&◌, ◌||◌, length, take, drop, eqb, leb}
 use Rattle.field.specs.Lists.{all}
 use Rattle.net.specs.Tables.{none}

@@ -1,4 +1,4 @@
--- `counts_of` meets its contract: each return answers one case of `counts-by`.
+-- `counts_of` meets its contract: each return answers one case of `counts_by`.
 -- Assumes nothing.
 use Rattle.boxes.proofs.CountedByTag.{by_action, by_scope, by_sequence, by_choice, by_parallel, by_loop}
 use borrow.Author.Rules.{rules}

@@ -1,4 +1,4 @@
--- `is_marking`: the marking is long enough, and its part passes, as `check-marking` asks. Assumes nothing.
+-- `is_marking`: the marking is long enough, and its part passes, as `check_marking` asks. Assumes nothing.
 use mathlib.Core.Path.{sym}
 use lib.Seq.{length-take-le}
 use borrow.Author.Tests.{le-leb, lt-leb}

@@ -1,4 +1,4 @@
--- `fault_of` meets its contract: each return answers one case of `fault-by`.
+-- `fault_of` meets its contract: each return answers one case of `fault_by`.
 -- Assumes nothing.
 use mathlib.Core.Path.{◌∙◌}
 use Rattle.plan.proofs.JudgedByTag.{an_offset, loop_faulty, loop_fine, no_loop}

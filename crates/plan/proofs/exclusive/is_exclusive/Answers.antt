@@ -1,4 +1,4 @@
--- `is_exclusive` meets its contract: each return answers one case of `exclusive-by`.
+-- `is_exclusive` meets its contract: each return answers one case of `exclusive_by`.
 -- Assumes nothing.
 use Rattle.plan.proofs.JudgedByTag.{choice_first_not, choice_second, parallel_not, scope_operand_is, others_are}
 use Rattle.plan.proofs.exclusive.is_exclusive.Goals as goal

@@ -1,4 +1,4 @@
--- `operand_of` meets its contract: each return answers one case of `operand-by`.
+-- `operand_of` meets its contract: each return answers one case of `operand_by`.
 -- Assumes nothing.
 use native.Mathlib.Omega.{arith}
 use borrow.Author.Rules.{rules}
