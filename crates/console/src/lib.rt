@@ -5,7 +5,7 @@ ghost use Rattle.std.specs.Prelude.{◌≡◌, ◌+◌, ◌<◌, ◌≤◌, drop
 ghost use Rattle.std.specs.Io.KnownBytes.{Consumes, IsAtEnd};
 ghost use Rattle.console.specs.Within.{Within, Reads};
 
-use std::io::{Error, Read};
+use std::io::{Error, ErrorKind, Read};
 use std::rt::Files;
 use std::{fs, io};
 
@@ -43,11 +43,14 @@ pub fn read_all<R: Read>(from: &mut R, buffer: &mut [u8]) -> Input
     Input::Bytes(at)
 }
 
-// Reads the file of this name.
-pub fn read_file(files: &impl Files, name: &str, buffer: &mut [u8]) -> Input
+// Reads the file of this name. std opens a file by a text, so a name that is not UTF-8 is answered as one that cannot be opened.
+pub fn read_file(files: &impl Files, name: &[u8], buffer: &mut [u8]) -> Input
     ensures { Within result (length buffer.new) }
 {
-    match fs::open(files, name) {
+    let Ok(path) = str::from_utf8(name) else {
+        return Input::Failed(Error::from(ErrorKind::InvalidInput));
+    };
+    match fs::open(files, path) {
         Ok(mut file) => read_all(&mut file, buffer),
         Err(e) => Input::Failed(e),
     }

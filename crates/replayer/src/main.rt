@@ -22,11 +22,11 @@ fn tell(rt: &impl Print, plan: &[u8], record: &[u8]) {
 fn main(rt: HostRuntime) {
     let mut plan = [0u8; PLAN_ROOM];
     let mut record = [0u8; RECORD_ROOM];
-    let Input::Bytes(n) = console::read_file(&rt, "plan", &mut plan) else {
+    let Input::Bytes(n) = console::read_file(&rt, b"plan", &mut plan) else {
         console::say(&rt, b"no file\n");
         return;
     };
-    let Input::Bytes(m) = console::read_file(&rt, "record", &mut record) else {
+    let Input::Bytes(m) = console::read_file(&rt, b"record", &mut record) else {
         console::say(&rt, b"no file\n");
         return;
     };
