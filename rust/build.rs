@@ -14,6 +14,6 @@ fn main() {
     println!("cargo:rustc-link-search=native={}", folder.display());
     println!("cargo:rustc-link-lib=static=exports");
     if !archive.exists() {
-        println!("cargo:warning=no target/staticlib/libexports.a: run `rt staticlib exports`");
+        println!("cargo:warning=no target/staticlib/libexports.a: run `tools/build`");
     }
 }

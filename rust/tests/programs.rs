@@ -10,10 +10,10 @@ use std::process::{Command, Stdio};
 use fuuqidhel::paper::{net_of, replay};
 use fuuqidhel::random::{self, Random, Shape};
 
-/// A program that `rt check` has proved and built.
+/// A program that `tools/build` has proved and built.
 fn program(name: &str) -> Command {
     let path = Path::new(env!("CARGO_MANIFEST_DIR")).join("../target/bin").join(name);
-    assert!(path.exists(), "no {}: run `rt check {name}`", path.display());
+    assert!(path.exists(), "no {}: run `tools/build`", path.display());
     Command::new(path)
 }
 
