@@ -12,7 +12,7 @@ use plan::exclusive::{number_at, row_number, wide};
 use plan::tags::{ACTION, AFTER, CHOICE, PARALLEL, SCOPE, SEQUENCE, TAG};
 
 // How many places of each kind a box has.
-#[derive(Drop)]
+#[derive(Clone, Copy)]
 pub struct Counts {
     pub entries: usize,
     pub internals: usize,

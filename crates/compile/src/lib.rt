@@ -15,7 +15,7 @@ use tables::kinds::write_kinds;
 use tables::rows::put_transitions;
 
 // The counts of the net, or the first refusal with what it carries.
-#[derive(Drop)]
+#[derive(Clone, Copy)]
 pub enum Compiling {
     Refused(usize, usize),
     Made {

@@ -9,7 +9,7 @@ ghost use Rattle.enabling.specs.Says.{enabling_says};
 pub mod listing;
 
 // How many transitions are enabled, that none is, or the refusal with what it carries.
-#[derive(Drop)]
+#[derive(Clone, Copy)]
 pub enum Enabling {
     Many(usize),
     Stuck,

@@ -13,7 +13,7 @@ const NO_SECOND: u16 = field::NO_SECOND as u16;
 pub const MOST_ITEMS: usize = field::ACTION_LIMIT;
 
 // The item at the front of what is left of a body, and the bytes that it takes.
-#[derive(Drop)]
+#[derive(Clone, Copy)]
 pub enum ItemAnswer {
     Refused(usize),
     Item {
@@ -24,21 +24,21 @@ pub enum ItemAnswer {
 }
 
 // How many items a body has.
-#[derive(Drop)]
+#[derive(Clone, Copy)]
 pub enum ItemsAnswer {
     Refused(usize),
     Items(usize),
 }
 
 // The length of a step's body, which stands behind three bytes.
-#[derive(Drop)]
+#[derive(Clone, Copy)]
 pub enum HeadAnswer {
     Refused(usize),
     Body(usize),
 }
 
 // How many items a step has, and the bytes that it takes.
-#[derive(Drop)]
+#[derive(Clone, Copy)]
 pub enum StepAnswer {
     Refused(usize),
     Step { items: usize, bytes: usize },

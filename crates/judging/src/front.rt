@@ -15,7 +15,7 @@ use plan::{PlanRead, read_plan_in};
 use transitions::{Listed, list_transitions};
 
 // The first refusal with what it carries; or how many nodes and transitions the plan has.
-#[derive(Drop)]
+#[derive(Clone, Copy)]
 pub enum Judgement {
     Refused(usize, usize),
     Ready { nodes: usize, transitions: usize },

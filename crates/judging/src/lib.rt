@@ -34,7 +34,7 @@ pub const INDEX: usize = 3 * field::ACTION_LIMIT;
 pub const LIST: usize = 3 * MOST;
 
 // The first refusal with what it carries; or the counts of the net.
-#[derive(Drop)]
+#[derive(Clone, Copy)]
 pub enum Judged {
     Refused(usize, usize),
     Fine {

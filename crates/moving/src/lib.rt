@@ -21,7 +21,7 @@ pub fn wide(x: u16) -> usize
 }
 
 // Done, or the refusal with what it carries.
-#[derive(Drop)]
+#[derive(Clone, Copy)]
 pub enum Fired {
     Done,
     Refused(usize, usize),

@@ -16,7 +16,7 @@ const FEW_NODES: usize = 64;
 const NO_OFFSET: usize = 65536;
 
 // Every loop's body is exclusive, or the offset of the first loop whose body is not.
-#[derive(Drop)]
+#[derive(Clone, Copy)]
 pub enum Loops {
     Fine,
     Faulty(usize),

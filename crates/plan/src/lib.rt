@@ -28,7 +28,7 @@ const SCOPE_TAG: u8 = 6;
 
 // What the tests of one field say before its operands are read: the refusal with what it carries; the label of an action; or, of an
 // operator, its tag, its own byte (0 if it has none), how many operands are due, and the part of the field that they stand in.
-#[derive(Drop)]
+#[derive(Clone, Copy)]
 enum Head {
     Refused(usize, usize),
     Action(u8),
@@ -42,7 +42,7 @@ enum Head {
 }
 
 // What is read of one field: the bytes that it takes, the number of the next node, and the actions so far.
-#[derive(Drop)]
+#[derive(Clone, Copy)]
 enum FieldRead {
     Refused(usize, usize),
     Read {
@@ -53,14 +53,14 @@ enum FieldRead {
 }
 
 // What is read of the operands of a body: the number of the next node, and the actions so far.
-#[derive(Drop)]
+#[derive(Clone, Copy)]
 enum OperandsRead {
     Refused(usize, usize),
     Read { nodes: usize, actions: usize },
 }
 
 // What is read of a plan: how many nodes and actions it has.
-#[derive(Drop)]
+#[derive(Clone, Copy)]
 pub enum PlanRead {
     Refused(usize, usize),
     Read { nodes: usize, actions: usize },

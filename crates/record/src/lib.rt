@@ -9,7 +9,7 @@ ghost use Rattle.form.specs.inner.FormSays.{head_says, HeadFits, step_head, step
 use form::{HeadAnswer, ItemsAnswer, MOST_ITEMS, StepAnswer, read_items, step_head};
 
 // A record, and the offset of the step that is read next.
-#[derive(Drop)]
+#[derive(Clone, Copy)]
 pub struct RecordReader<'a> {
     bytes: &'a [u8],
     at: usize,

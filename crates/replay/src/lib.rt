@@ -24,7 +24,7 @@ const FEW_TRANSITIONS: usize = 64;
 const FEW_ARCS: usize = 1024;
 
 // The counts of a net.
-#[derive(Drop)]
+#[derive(Clone, Copy)]
 struct Sizes {
     places: usize,
     transitions: usize,

@@ -16,7 +16,7 @@ mod exits;
 mod steps;
 
 // How the steps of a record end: all of them fired, with all exits marked or not; or the refusal, what it carries and the accepted steps.
-#[derive(Drop)]
+#[derive(Clone, Copy)]
 pub enum Ran {
     Finished(usize),
     Unfinished(usize),

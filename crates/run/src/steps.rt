@@ -18,14 +18,14 @@ use record::step_at;
 use step::firing;
 
 // How far a run has come: the offset of the next step, and the steps that fired.
-#[derive(Drop)]
+#[derive(Clone, Copy)]
 pub struct Place {
     pub at: usize,
     pub steps: usize,
 }
 
 // The bytes of a step that fired, or the refusal with what it carries.
-#[derive(Drop)]
+#[derive(Clone, Copy)]
 pub enum Taken {
     Step(usize),
     Refused(usize, usize),

@@ -28,7 +28,7 @@ const OVER: usize = MOST + 1;
 const NO_SECOND: u16 = field::NO_SECOND as u16;
 
 // How many transitions are listed; or there are more than a net may have.
-#[derive(Drop)]
+#[derive(Clone, Copy)]
 pub enum Listed {
     Many(usize),
     TooMany,

@@ -7,7 +7,7 @@ use plan::tags::{ACTION, AFTER, FIRST, LOOP, PARALLEL, SCOPE, TAG};
 
 // The actions from one number to before another: all part from an action at a parallel field, or none does. Those of one operand part
 // alike from an action of another, so one walk down the table tells of a run of them.
-#[derive(Drop)]
+#[derive(Clone, Copy)]
 pub struct Parting {
     pub from: usize,
     pub until: usize,
