@@ -29,8 +29,7 @@ fn tell(answer: &mut [usize], numbers: &[usize])
 }
 
 // Compiles a plan into the lent tables. Seven numbers: refusal, carried, places, transitions, arcs, entries, internals.
-#[unsafe(no_mangle)]
-pub extern "C" fn fuuqidhel_compile(
+pub fn fuuqidhel_compile(
     plan: &[u8],
     kinds: &mut [u8],
     rows: &mut [u16],
@@ -63,8 +62,7 @@ pub extern "C" fn fuuqidhel_compile(
 }
 
 // Fires one step field at a marking. Two numbers: refusal, carried.
-#[unsafe(no_mangle)]
-pub extern "C" fn fuuqidhel_fire(
+pub fn fuuqidhel_fire(
     kinds: &[u8],
     rows: &[u16],
     arcs: &[u16],
@@ -99,8 +97,7 @@ pub extern "C" fn fuuqidhel_fire(
 }
 
 // Lists the enabled transitions. Four numbers: refusal, carried, how many, and 1 where the net is stuck.
-#[unsafe(no_mangle)]
-pub extern "C" fn fuuqidhel_enabled(
+pub fn fuuqidhel_enabled(
     kinds: &[u8],
     rows: &[u16],
     arcs: &[u16],
@@ -136,8 +133,7 @@ pub extern "C" fn fuuqidhel_enabled(
 }
 
 // Replays a record against a plan. Four numbers: refusal, carried, accepted steps, 1 where finished.
-#[unsafe(no_mangle)]
-pub extern "C" fn fuuqidhel_replay(
+pub fn fuuqidhel_replay(
     plan: &[u8],
     record: &[u8],
     marking: &mut [u8],
