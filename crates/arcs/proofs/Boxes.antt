@@ -14,8 +14,8 @@ use Rattle.algebra.specs.Arcs.{consumes, produces}
 use Rattle.algebra.proofs.Products.{product_member}
 use Rattle.algebra.proofs.EntriesAndExits.{entries_not_produced, exits_not_consumed}
 use Rattle.arcs.specs.inner.Moves.{passes, Box, box, Off}
-use Rattle.arcs.specs.declared.sides.Side.{Side}
-use Rattle.arcs.specs.declared.sides.Side.TheVariants.{Inputs, Outputs}
+use Rattle.net.specs.declared.Side.{Side}
+use Rattle.net.specs.declared.Side.TheVariants.{Inputs, Outputs}
 use Rattle.arcs.proofs.Ones.{either, off_append, off_either}
 use Rattle.arcs.proofs.Levels.{sequence_box, choice_box, parallel_box, loop_box, None}
 

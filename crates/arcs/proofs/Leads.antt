@@ -13,8 +13,8 @@ use Rattle.algebra.specs.Arcs.{numbers, consumes, produces}
 use Rattle.arcs.specs.inner.Positions.{ones, stretched, repeated}
 use Rattle.arcs.specs.inner.Moves.{Kind, Entry, Internal, Exit, First, Second, Third, Move, passes, own, Box, box, Lies, moved, shift, sequence_move, choice_move, parallel_move, loop_move}
 use Rattle.arcs.specs.inner.Spreads.{copied, placed, Spreads, plain, list_of, under}
-use Rattle.arcs.specs.declared.sides.Side.{Side}
-use Rattle.arcs.specs.declared.sides.Side.TheVariants.{Inputs, Outputs}
+use Rattle.net.specs.declared.Side.{Side}
+use Rattle.net.specs.declared.Side.TheVariants.{Inputs, Outputs}
 use Rattle.boxes.specs.declared.counts.Counts.{Counts}
 use Rattle.arcs.proofs.Ones.{numbers_ones, ones_before, off_append}
 use Rattle.arcs.proofs.Levels.{Goes, lengths, as_itself, behind, behind_two, loop_box, sequence_first, sequence_second, choice_first, choice_second, parallel_first, parallel_second, loop_first, loop_second, loop_third, scope_only}

@@ -16,7 +16,7 @@ use Rattle.boxes.specs.inner.NodeCounts.{box_counts}
 use Rattle.boxes.proofs.CountsCutOff.{entry_count_is, exit_count_is, internal_count_is}
 use Rattle.arcs.specs.inner.Moves.{passes, box}
 use Rattle.boxes.specs.inner.Counted.{counts_at}
-use Rattle.arcs.specs.declared.sides.Side.{Side}
+use Rattle.net.specs.declared.Side.{Side}
 use Rattle.boxes.specs.declared.counts.Counts.{Counts}
 use Rattle.boxes.proofs.CountedByTag.{same_counts}
 use Rattle.arcs.proofs.Levels.{lengths}

@@ -2,4 +2,3 @@
 #![tactic(auto)]
 
 pub mod merge;
-pub mod sides;

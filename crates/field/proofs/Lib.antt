@@ -5,3 +5,4 @@ pub mod Alls
 pub mod OneResult
 pub mod KnownNumbers
 pub mod AreBytes
+pub mod NumbersOfRows

@@ -3,3 +3,4 @@ pub mod Refusals
 pub mod Answer
 pub mod Field
 pub mod Lists
+pub mod Says

@@ -10,7 +10,7 @@ use lib.Seq.{ext_get_or}
 use Rattle.plan.specs.inner.Table.{Stands}
 use Rattle.arcs.specs.inner.Positions.{stretched, repeated}
 use Rattle.arcs.specs.inner.Spreads.{Factor, Spread, copied, placed}
-use Rattle.arcs.specs.declared.sides.Side.{Side}
+use Rattle.net.specs.declared.Side.{Side}
 use Rattle.arcs.proofs.Positions.{stretched_length, repeated_length, repeated_first}
 use Rattle.lists.specs.inner.Lists.{OneList, list_row, place_of, Chain, Means}
 use Rattle.lists.specs.inner.Placing.{Small, Stepped, CopiedOn}

@@ -6,7 +6,7 @@ ghost use Rattle.lists.specs.inner.Lists.{list_row, place_of, Chain, Means};
 ghost use Rattle.lists.specs.inner.Placing.{Small, Stepped, CopiedOn};
 
 use crate::{EXITS, ROW, list_at};
-use arcs::sides::Side;
+use net::Side;
 use plan::exclusive::wide;
 
 // Where a side's five numbers stand.

@@ -17,6 +17,13 @@ pub mod tokens;
 pub use chains::{index_by_first, no_heads, no_nexts};
 pub use rows::number;
 
+/// 01, "Box construction": a transition consumes from its input places and produces into its output places.
+#[derive(Clone, Copy, Debug, PartialEq, Eq)]
+pub enum Side {
+    Inputs,
+    Outputs,
+}
+
 // No count is over its limit. Only behind this test may counts be multiplied: a lent count can be any number.
 fn counts_fit(places: usize, transitions: usize, arc_count: usize) -> bool
     ensures { result ≡ (leb places place_limit && (leb transitions transition_limit && leb arc_count arc_limit)) }

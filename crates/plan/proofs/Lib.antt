@@ -17,3 +17,4 @@ pub mod Rows
 pub mod Stores
 pub mod WholePlan
 pub mod ReaderDetermined
+pub mod NodeRows

@@ -2,6 +2,7 @@
 #![tactic(auto)]
 
 pub mod exclusive;
+pub mod table;
 pub mod tags;
 
 ghost use Rattle.std.specs.Prelude.{◌≡◌, ◌+◌, ◌*◌, ◌≤◌, length};

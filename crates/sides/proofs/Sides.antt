@@ -16,8 +16,8 @@ use Rattle.boxes.specs.inner.ArcCounts.{item_arcs}
 use Rattle.boxes.proofs.ArcsRise.{numbers_rise}
 use Rattle.arcs.specs.inner.Merge.{union, Merged}
 use Rattle.arcs.specs.inner.Moves.{passes}
-use Rattle.arcs.specs.declared.sides.Side.{Side}
-use Rattle.arcs.specs.declared.sides.Side.TheVariants.{Inputs, Outputs}
+use Rattle.net.specs.declared.Side.{Side}
+use Rattle.net.specs.declared.Side.TheVariants.{Inputs, Outputs}
 use Rattle.arcs.proofs.Merges as merges
 use Rattle.arcs.proofs.Merges.{union_numbers, part_is}
 use Rattle.arcs.proofs.Ones.{numbers_ones, ones_below}

@@ -15,7 +15,7 @@ use Rattle.boxes.specs.inner.ArcCounts.{item_arcs}
 use Rattle.arcs.specs.inner.Merge.{into, union}
 use Rattle.arcs.specs.inner.Positions.{stretched}
 use Rattle.arcs.specs.inner.Spreads.{Spread, placed}
-use Rattle.arcs.specs.declared.sides.Side.{Side}
+use Rattle.net.specs.declared.Side.{Side}
 use Rattle.arcs.proofs.Positions.{stretched_length, stretched_at}
 use Rattle.lists.specs.inner.Lists.{list_row, place_of, Means}
 use Rattle.lists.proofs.Chains.{copied_longer, copied_first}

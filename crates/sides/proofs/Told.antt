@@ -10,7 +10,7 @@ use borrow.Author.Tests.{eqb-true}
 use Rattle.algebra.specs.Expr.{Expr, actions}
 use Rattle.algebra.specs.Item.{one, first}
 use Rattle.net.specs.Tables.{none, second, item_of}
-use Rattle.arcs.specs.declared.sides.Side.{Side}
+use Rattle.net.specs.declared.Side.{Side}
 use Rattle.sides.specs.inner.Sides.{told_count, item_places, Drafted}
 
 pub told_one : {lists index : List ℕ} {E : Expr} → Drafted lists index E → (side : Side) (i : ℕ) → i < actions E → told_count index side i ≡ length (item_places E side (one i))

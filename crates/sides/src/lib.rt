@@ -6,12 +6,12 @@ ghost use Rattle.std.specs.Prelude.{◌≡◌, true, cond, [], ◌∷◌, ◌+�
 ghost use Rattle.algebra.specs.Item.{one, two};
 ghost use Rattle.net.specs.Tables.{item_of};
 ghost use Rattle.boxes.specs.inner.ArcCounts.{item_arcs};
-ghost use Rattle.arcs.specs.declared.sides.Side.TheVariants.{Inputs, Outputs};
+ghost use Rattle.net.specs.declared.Side.TheVariants.{Inputs, Outputs};
 ghost use Rattle.lists.specs.inner.Lists.{place_of};
 ghost use Rattle.sides.specs.inner.Sides.{told_count, Placed, PlacedBoth, PlacedPair, InOrder};
 
 use arcs::merge::merge;
-use arcs::sides::Side;
+use net::Side;
 use lists::placing::{place_of, put_places};
 use plan::exclusive::{number_at, wide};
 

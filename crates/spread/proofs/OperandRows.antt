@@ -12,8 +12,8 @@ use borrow.Author.Tests.{eqb-true, eqb-false}
 use Rattle.algebra.specs.Expr.{Expr}
 use Rattle.arcs.specs.inner.Moves.{Kind, Entry, Internal, Exit, Move}
 use Rattle.arcs.specs.inner.Spreads.{Factor, Spread, lowered, Spreads, list_of, under}
-use Rattle.arcs.specs.declared.sides.Side.{Side}
-use Rattle.arcs.specs.declared.sides.Side.TheVariants.{Inputs, Outputs}
+use Rattle.net.specs.declared.Side.{Side}
+use Rattle.net.specs.declared.Side.TheVariants.{Inputs, Outputs}
 use Rattle.arcs.proofs.SpreadsFit.{Lowers, AllLower}
 use Rattle.lists.specs.inner.Lists.{OneList, one_list, Short, list_row, list_by, lower, node_put, operand_put, place_of, Chain, Means, Has}
 use Rattle.lists.proofs.RowsPut.{node_long, node_kept, node_in, node_out, node_inner}

@@ -24,8 +24,8 @@ use Rattle.arcs.specs.inner.Moves.{Kind, Entry, Exit, Operand, First, Second, Th
 use Rattle.boxes.specs.inner.Counted.{counts_at}
 use Rattle.arcs.specs.inner.Nodes.{At}
 use Rattle.arcs.specs.inner.Spreads.{Spreads, placed, plain, list_of, under}
-use Rattle.arcs.specs.declared.sides.Side.{Side}
-use Rattle.arcs.specs.declared.sides.Side.TheVariants.{Inputs, Outputs}
+use Rattle.net.specs.declared.Side.{Side}
+use Rattle.net.specs.declared.Side.TheVariants.{Inputs, Outputs}
 use Rattle.boxes.specs.declared.counts.Counts.{Counts}
 use Rattle.arcs.proofs.Sizes.{sizes, counts_here}
 use Rattle.arcs.proofs.Children as kids

@@ -14,8 +14,8 @@ use Rattle.arcs.specs.inner.Moves.{Kind, Entry, Internal, Exit, Move, shift}
 use Rattle.boxes.specs.inner.Counted.{counts_at}
 use Rattle.arcs.specs.inner.Nodes.{At}
 use Rattle.arcs.specs.inner.Spreads.{Spread, Spreads, under}
-use Rattle.arcs.specs.declared.sides.Side.{Side}
-use Rattle.arcs.specs.declared.sides.Side.TheVariants.{Inputs, Outputs}
+use Rattle.net.specs.declared.Side.{Side}
+use Rattle.net.specs.declared.Side.TheVariants.{Inputs, Outputs}
 use Rattle.arcs.proofs.Sizes.{sizes, counts_here}
 use Rattle.arcs.proofs.Children as kids
 use Rattle.arcs.proofs.Leads.{Leads}

@@ -8,7 +8,7 @@ ghost use Rattle.lists.specs.inner.Lists.{ShortNode, node_row};
 ghost use Rattle.spread.specs.inner.Walk.{root_put, two_put, three_put, operands_put, index_numbers, index_put, ActionPut};
 ghost use Rattle.spread.specs.inner.Spread.{Of, Told};
 
-use arcs::sides::Side;
+use net::Side;
 use boxes::counts::{Counts, counts_at};
 use lists::placing::count_places;
 use lists::{Node, ROW, lowered, node_at, places_from, put_node};

@@ -16,8 +16,8 @@ use Rattle.net.specs.Tables.{item_of, arcs_of}
 use Rattle.boxes.specs.inner.ArcCounts.{item_arcs, listed_arcs, action_arcs}
 use Rattle.boxes.proofs.ArcsCounted.{arcs_counted, listed_arcs_same}
 use Rattle.arcs.specs.inner.Moves.{passes}
-use Rattle.arcs.specs.declared.sides.Side.{Side}
-use Rattle.arcs.specs.declared.sides.Side.TheVariants.{Inputs, Outputs}
+use Rattle.net.specs.declared.Side.{Side}
+use Rattle.net.specs.declared.Side.TheVariants.{Inputs, Outputs}
 use Rattle.arcs.proofs.Transitions.{numbers_few}
 use Rattle.sides.specs.inner.Sides.{told_count, told_arcs, item_places, Below, Drafted}
 use Rattle.sides.proofs.Told.{told_one}

@@ -14,7 +14,7 @@ use Rattle.algebra.specs.Transitions.{transitions}
 use Rattle.algebra.specs.Arcs.{transition_of, net_of}
 use Rattle.net.specs.Tables.{second, item_of, rows_from, arcs_from, rows_of, arcs_of}
 use Rattle.boxes.specs.inner.ArcCounts.{item_arcs}
-use Rattle.arcs.specs.declared.sides.Side.TheVariants.{Inputs, Outputs}
+use Rattle.net.specs.declared.Side.TheVariants.{Inputs, Outputs}
 use Rattle.sides.specs.inner.Sides.{told_count, told_arcs, Drafted, PlacedBoth}
 use Rattle.sides.proofs.Told.{its_numbers}
 use Rattle.tables.specs.inner.Rows.{item_at, listed_at, listed_from, Whole, Asked, Room, Put}

@@ -12,7 +12,7 @@ ghost use Rattle.boxes.specs.inner.ArcCounts.{item_arcs, listed_arcs};
 ghost use Rattle.sides.specs.inner.Sides.{told_arcs, Drafted};
 ghost use Rattle.tables.specs.inner.Rows.{item_at, listed_at, listed_from, Whole, Asked, Room, Put};
 
-use arcs::sides::Side;
+use net::Side;
 use plan::exclusive::wide;
 use sides::{count_item, put_arcs};
 

@@ -4,8 +4,8 @@ use Rattle.algebra.specs.Expr.{Expr}
 use Rattle.algebra.specs.Places.{Place, entries, internals, exits}
 use Rattle.algebra.specs.Arcs.{consumes, produces}
 use Rattle.arcs.specs.inner.Positions.{ones, stretched, repeated}
-use Rattle.arcs.specs.declared.sides.Side.{Side}
-use Rattle.arcs.specs.declared.sides.Side.TheVariants.{Inputs, Outputs}
+use Rattle.net.specs.declared.Side.{Side}
+use Rattle.net.specs.declared.Side.TheVariants.{Inputs, Outputs}
 use Rattle.boxes.specs.declared.counts.Counts.{Counts}
 
 -- The three lists of a box.

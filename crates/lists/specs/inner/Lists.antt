@@ -3,8 +3,8 @@ use Rattle.std.specs.Prelude.{ℕ, ◌+◌, ◌*◌, ◌%◌, ◌≤◌, ◌<◌
 use Rattle.std.proofs.lemmas.List.Edits.{sets}
 use Rattle.arcs.specs.inner.Moves.{Kind, Entry, Internal, Exit, Move}
 use Rattle.arcs.specs.inner.Spreads.{Factor, Spread, Spreads}
-use Rattle.arcs.specs.declared.sides.Side.{Side}
-use Rattle.arcs.specs.declared.sides.Side.TheVariants.{Inputs, Outputs}
+use Rattle.net.specs.declared.Side.{Side}
+use Rattle.net.specs.declared.Side.TheVariants.{Inputs, Outputs}
 use Rattle.lists.specs.declared.List as declared
 use Rattle.lists.specs.declared.Node as declared_node
 

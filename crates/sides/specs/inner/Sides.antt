@@ -9,8 +9,8 @@ use Rattle.algebra.specs.Places.{places}
 use Rattle.algebra.specs.Arcs.{numbers, by_item}
 use Rattle.boxes.specs.inner.ArcCounts.{item_arcs}
 use Rattle.arcs.specs.inner.Moves.{passes}
-use Rattle.arcs.specs.declared.sides.Side.{Side}
-use Rattle.arcs.specs.declared.sides.Side.TheVariants.{Inputs, Outputs}
+use Rattle.net.specs.declared.Side.{Side}
+use Rattle.net.specs.declared.Side.TheVariants.{Inputs, Outputs}
 use Rattle.spread.specs.inner.Spread.{count_of, Told}
 
 -- How many places the index tells of an action: on one side, and on both.

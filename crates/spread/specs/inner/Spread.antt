@@ -8,8 +8,8 @@ use Rattle.plan.specs.inner.Table.{Table}
 use Rattle.boxes.specs.inner.NodeCounts.{node_counts}
 use Rattle.arcs.specs.inner.Moves.{passes}
 use Rattle.arcs.specs.inner.Spreads.{Spread, placed}
-use Rattle.arcs.specs.declared.sides.Side.{Side}
-use Rattle.arcs.specs.declared.sides.Side.TheVariants.{Inputs, Outputs}
+use Rattle.net.specs.declared.Side.{Side}
+use Rattle.net.specs.declared.Side.TheVariants.{Inputs, Outputs}
 use Rattle.lists.specs.inner.Lists.{list_row, place_of, Means}
 
 -- The rows begin with the node table of an expression and the counts with those of its nodes; its places are within the limit.

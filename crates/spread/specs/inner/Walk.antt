@@ -6,8 +6,8 @@ use Rattle.arcs.specs.inner.Moves.{Kind, Entry, Internal, Exit, Operand, First, 
 use Rattle.boxes.specs.inner.Counted.{counts_at}
 use Rattle.arcs.specs.inner.Nodes.{first_at}
 use Rattle.arcs.specs.inner.Spreads.{Spread, placed}
-use Rattle.arcs.specs.declared.sides.Side.{Side}
-use Rattle.arcs.specs.declared.sides.Side.TheVariants.{Inputs, Outputs}
+use Rattle.net.specs.declared.Side.{Side}
+use Rattle.net.specs.declared.Side.TheVariants.{Inputs, Outputs}
 use Rattle.boxes.specs.declared.counts.Counts.{Counts}
 use Rattle.lists.specs.inner.Lists.{one_list, list_row, node_put, operand_put, place_of, Means}
 

@@ -8,7 +8,7 @@ use Rattle.algebra.specs.Transitions.{Labelled, transitions}
 use Rattle.algebra.specs.Arcs.{net_of}
 use Rattle.net.specs.Tables.{item_of, rows_from, arcs_of}
 use Rattle.boxes.specs.inner.ArcCounts.{item_arcs}
-use Rattle.arcs.specs.declared.sides.Side.{Side}
+use Rattle.net.specs.declared.Side.{Side}
 use Rattle.sides.specs.inner.Sides.{told_count, told_arcs, Drafted}
 
 -- Transition t of the list, three numbers to each, and so many from t on.

@@ -5,7 +5,7 @@ use native.Mathlib.Omega.{arith}
 use mathlib.Core.Path.{refl}
 use lib.ListN.{drop, length-drop}
 use lib.Seq.{length-take-le}
-use Rattle.arcs.specs.declared.sides.Side.TheVariants.{Inputs, Outputs}
+use Rattle.net.specs.declared.Side.TheVariants.{Inputs, Outputs}
 use Rattle.tables.proofs.Counted.{side_told, sides_told}
 use Rattle.tables.proofs.Puts.{transition_put}
 use Rattle.tables.proofs.rows.put_transition.Goals as goal

@@ -1,0 +1,36 @@
+-- The numbers of the node table at node k are the fields of row k. True because each row has six numbers.
+use Prim.Native.Nat.{ℕ, ◌+◌, ◌*◌, ◌≤◌, ◌<◌}
+use mathlib.Core.Path.{◌≡◌, refl}
+use mathlib.Core.List.{List}
+use native.Mathlib.Omega.{arith}
+use lib.ListN.{length, get_or}
+use Rattle.field.proofs.NumbersOfRows.{length_numbers, number_of_row, number_past_rows}
+use Rattle.plan.specs.declared.table.Row.{Row}
+use Rattle.plan.specs.inner.Numbers.{tag_number, row_numbers, table_numbers, first_at}
+use Rattle.plan.specs.inner.Table.{tag_at, after_at}
+
+pub table_length : (rows : List Row) → length (table_numbers rows) ≡ 6 * length rows
+table_length rows = length_numbers row_numbers 6 (λ r. refl) rows
+
+module _ (rows : List Row) (k : ℕ) (d : Row) (h : k < length rows) where
+  pub tag_of_row : tag_at (table_numbers rows) k ≡ tag_number (get_or rows k d).tag
+  tag_of_row = number_of_row row_numbers 6 (λ r. refl) rows k 0 d h (omega arith)
+
+  pub byte_of_row : get_or (table_numbers rows) (6 * k + 1) 0 ≡ (get_or rows k d).byte
+  byte_of_row = number_of_row row_numbers 6 (λ r. refl) rows k 1 d h (omega arith)
+
+  pub members_of_row : get_or (table_numbers rows) (6 * k + 2) 0 ≡ (get_or rows k d).members
+  members_of_row = number_of_row row_numbers 6 (λ r. refl) rows k 2 d h (omega arith)
+
+  pub after_of_row : after_at (table_numbers rows) k ≡ (get_or rows k d).after
+  after_of_row = number_of_row row_numbers 6 (λ r. refl) rows k 3 d h (omega arith)
+
+  pub first_of_row : first_at (table_numbers rows) k ≡ (get_or rows k d).first
+  first_of_row = number_of_row row_numbers 6 (λ r. refl) rows k 4 d h (omega arith)
+
+  pub at_of_row : get_or (table_numbers rows) (6 * k + 5) 0 ≡ (get_or rows k d).at
+  at_of_row = number_of_row row_numbers 6 (λ r. refl) rows k 5 d h (omega arith)
+
+-- past the last row each number is 0
+pub past_rows : (rows : List Row) (k j : ℕ) → length rows ≤ k → get_or (table_numbers rows) (6 * k + j) 0 ≡ 0
+past_rows rows k j h = number_past_rows row_numbers 6 (λ r. refl) rows k j h
