@@ -1,169 +1,107 @@
 // One line for a case: a title and what the call answers.
-ghost use Rattle.std.specs.Prelude.{◌≤◌, length};
+use std::fmt::Display;
 
-use compile::Compiling;
 use enabling::Enabling;
-use moving::Fired;
-use run::Ran;
-
-pub const ROOM: usize = 8192;
+use net::Lent;
 
 const ROWS_ROOM: usize = 6 * field::TRANSITION_LIMIT;
 
-fn title(rt: &impl Print, text: &[u8]) {
-    console::say(rt, text);
-    console::say(rt, b": ");
+// A write that fails is passed over.
+fn say<T: Display, E: Display>(rt: &impl Print, title: &str, answer: Result<T, E>) {
+    let _ = match answer {
+        Ok(value) => println!(rt; "{title}: {value}"),
+        Err(refusal) => println!(rt; "{title}: {refusal}"),
+    };
 }
 
-fn said_compiling(rt: &impl Print, answer: Compiling) {
-    match answer {
-        Compiling::Refused(number, carried) => console::say_refused(rt, number, carried),
-        Compiling::Made {
-            places,
-            transitions,
-            arcs,
-            entries,
-            internals,
-        } => console::say_net(rt, places, transitions, arcs, entries, internals),
-    }
-    console::say(rt, b"\n");
+fn say_enabled(rt: &impl Print, title: &str, lent: &Lent, marking: &[u8], list: &mut [u16]) {
+    let _ = match enabling::enabled(lent, marking, list) {
+        Ok(Enabling::Many(many)) => println!(rt; "{title}: enabled {many}"),
+        Ok(Enabling::Stuck) => println!(rt; "{title}: stuck"),
+        Err(refusal) => println!(rt; "{title}: {refusal}"),
+    };
 }
 
-fn said_enabling(rt: &impl Print, answer: Enabling) {
-    match answer {
-        Enabling::Many(many) => {
-            console::say(rt, b"enabled ");
-            console::say_number(rt, many);
-        }
-        Enabling::Stuck => console::say(rt, b"stuck"),
-        Enabling::Refused(number, carried) => console::say_refused(rt, number, carried),
-    }
-    console::say(rt, b"\n");
+/// Compiles a plan into tables that any net fits in.
+pub fn compiled(rt: &impl Print, title: &str, plan: &[u8]) {
+    let mut kinds = [0; field::PLACE_LIMIT];
+    let mut rows = [0; ROWS_ROOM];
+    let mut arcs = [0; field::ARC_LIMIT];
+    compiled_into(rt, title, plan, &mut kinds, &mut rows, &mut arcs);
 }
 
-// Compiles a plan into tables that any net fits in.
-pub fn compiled(rt: &impl Print, text: &[u8], plan: &[u8]) {
-    title(rt, text);
-    let mut kinds = [0u8; field::PLACE_LIMIT];
-    let mut rows = [0u16; ROWS_ROOM];
-    let mut arcs = [0u16; field::ARC_LIMIT];
-    said_compiling(rt, compile::compile(plan, &mut kinds, &mut rows, &mut arcs));
-}
-
-fn part(bytes: &[u8], n: usize) -> &[u8]
-    requires { n ≤ length bytes.now }
-{
-    &bytes[..n]
-}
-
-// The first n bytes of a plan's buffer.
-pub fn first(plan: &[u8; ROOM], n: usize) -> &[u8]
-    requires { n ≤ 8192 }
-{
-    part(plan, n)
-}
-
-// Compiles the plan of the first n bytes.
-pub fn made(rt: &impl Print, text: &[u8], plan: &[u8; ROOM], n: usize)
-    requires { n ≤ 8192 }
-{
-    compiled(rt, text, first(plan, n));
-}
-
-// Compiles a plan into the lent tables.
+/// Compiles a plan into the lent tables.
 pub fn compiled_into(
     rt: &impl Print,
-    text: &[u8],
+    title: &str,
     plan: &[u8],
     kinds: &mut [u8],
     rows: &mut [u16],
     arcs: &mut [u16],
 ) {
-    title(rt, text);
-    said_compiling(rt, compile::compile(plan, kinds, rows, arcs));
+    say(rt, title, compile::compile(plan, kinds, rows, arcs));
 }
 
-pub fn replayed_in(rt: &impl Print, text: &[u8], plan: &[u8], record: &[u8], marking: &mut [u8]) {
-    title(rt, text);
-    match replay::replay(plan, record, marking) {
-        Ran::Finished(steps) => console::say_finished(rt, steps),
-        Ran::Unfinished(steps) => console::say_unfinished(rt, steps),
-        Ran::Refused(number, carried, steps) => console::say_stopped(rt, number, carried, steps),
+/// Replays a record with a marking buffer that any net fits in.
+pub fn replayed(rt: &impl Print, title: &str, plan: &[u8], record: &[u8]) {
+    replayed_in(rt, title, plan, record, &mut [0; field::PLACE_LIMIT]);
+}
+
+pub fn replayed_in(rt: &impl Print, title: &str, plan: &[u8], record: &[u8], marking: &mut [u8]) {
+    say(rt, title, replay::replay(plan, record, marking));
+}
+
+// The net of `(a‖b);c`, lent with these kinds.
+const ROWS: [u16; 18] = [
+    1, 0, 65535, 0, 1, 1, 2, 1, 65535, 2, 1, 1, 3, 2, 65535, 4, 2, 1,
+];
+
+const ARCS: [u16; 7] = [0, 2, 1, 3, 2, 3, 4];
+
+fn lent_with(kinds: &[u8]) -> Lent {
+    Lent {
+        kinds,
+        rows: &ROWS,
+        arcs: &ARCS,
+        places: 5,
+        transitions: 3,
+        arc_count: 7,
     }
-    console::say(rt, b"\n");
 }
 
-// Replays a record as long as a record may be.
-pub fn replayed_whole(
-    rt: &impl Print,
-    text: &[u8],
-    plan: &[u8],
-    record: &[u8; field::RECORD_LIMIT],
-) {
-    replayed(rt, text, plan, record);
-}
-
-pub fn replayed(rt: &impl Print, text: &[u8], plan: &[u8], record: &[u8]) {
-    let mut marking = [0u8; field::PLACE_LIMIT];
-    replayed_in(rt, text, plan, record, &mut marking);
-}
-
-// The net of `(a‖b);c`, lent with these kinds, at a marking.
-pub fn fired(rt: &impl Print, text: &[u8], kinds: &[u8], marking: &mut [u8], step: &[u8]) {
-    title(rt, text);
-    let rows = [
-        1, 0, 65535, 0, 1, 1, 2, 1, 65535, 2, 1, 1, 3, 2, 65535, 4, 2, 1,
-    ];
-    let arcs = [0, 2, 1, 3, 2, 3, 4];
-    match step::fire(kinds, &rows, &arcs, 5, 3, 7, marking, step) {
-        Fired::Done => console::say(rt, b"fired"),
-        Fired::Refused(number, carried) => console::say_refused(rt, number, carried),
-    }
-    console::say(rt, b"\n");
-}
-
-pub fn listed(rt: &impl Print, text: &[u8], marking: &[u8], list: &mut [u16]) {
-    title(rt, text);
-    let kinds = [1, 1, 2, 2, 3];
-    let rows = [
-        1, 0, 65535, 0, 1, 1, 2, 1, 65535, 2, 1, 1, 3, 2, 65535, 4, 2, 1,
-    ];
-    let arcs = [0, 2, 1, 3, 2, 3, 4];
-    said_enabling(
+/// Fires a step on that net at a marking.
+pub fn fired(rt: &impl Print, title: &str, kinds: &[u8], marking: &mut [u8], step: &[u8]) {
+    say(
         rt,
-        enabling::enabled(&kinds, &rows, &arcs, 5, 3, 7, marking, list),
+        title,
+        step::fire(&lent_with(kinds), marking, step).map(|_| "fired"),
     );
 }
 
-// Compiles a plan into tables that any net fits in, and lists what is enabled on its net at a marking.
-pub fn listed_on(rt: &impl Print, text: &[u8], plan: &[u8], marking: &[u8], list: &mut [u16]) {
-    title(rt, text);
-    let mut kinds = [0u8; field::PLACE_LIMIT];
-    let mut rows = [0u16; ROWS_ROOM];
-    let mut arcs = [0u16; field::ARC_LIMIT];
+/// Lists what is enabled on that net at a marking.
+pub fn listed(rt: &impl Print, title: &str, marking: &[u8], list: &mut [u16]) {
+    say_enabled(rt, title, &lent_with(&[1, 1, 2, 2, 3]), marking, list);
+}
+
+/// Compiles a plan into tables that any net fits in, and lists what is enabled on its net at a marking.
+pub fn listed_on(rt: &impl Print, title: &str, plan: &[u8], marking: &[u8], list: &mut [u16]) {
+    let mut kinds = [0; field::PLACE_LIMIT];
+    let mut rows = [0; ROWS_ROOM];
+    let mut arcs = [0; field::ARC_LIMIT];
     match compile::compile(plan, &mut kinds, &mut rows, &mut arcs) {
-        Compiling::Refused(number, carried) => said_compiling(
-            rt,
-            Compiling::Refused(number, carried),
-        ),
-        Compiling::Made {
-            places,
-            transitions,
-            arcs: count,
-            entries,
-            internals,
-        } => said_enabling(
-            rt,
-            enabling::enabled(
-                &kinds,
-                &rows,
-                &arcs,
-                places,
-                transitions,
-                count,
-                marking,
-                list,
-            ),
-        ),
+        Ok(net) => {
+            let lent = Lent {
+                kinds: &kinds,
+                rows: &rows,
+                arcs: &arcs,
+                places: net.places,
+                transitions: net.transitions,
+                arc_count: net.arcs,
+            };
+            say_enabled(rt, title, &lent, marking, list);
+        }
+        Err(refusal) => {
+            let _ = println!(rt; "{title}: {refusal}");
+        }
     }
 }

@@ -1,2 +1,1 @@
-pub mod Inside
 mod More

@@ -11,9 +11,8 @@ ghost use Rattle.compile.specs.Says.{three_lent as lent_tables};
 ghost use Rattle.replay.specs.Replay;
 ghost use Rattle.exports.specs.Told.{told, compile_tells, fire_tells, enabled_tells, replay_tells};
 
-use compile::Compiling;
 use enabling::Enabling;
-use moving::Fired;
+use net::Lent;
 use run::Ran;
 
 // The numbers of an answer, for which there is room.
@@ -21,11 +20,7 @@ fn tell(answer: &mut [usize], numbers: &[usize])
     requires { length numbers.now ≤ length answer.old }
     ensures { answer.new ≡ told numbers.now answer.old }
 {
-    let mut i = 0;
-    while i < numbers.len() {
-        answer[i] = numbers[i];
-        i += 1;
-    }
+    answer[..numbers.len()].copy_from_slice(numbers);
 }
 
 // Compiles a plan into the lent tables. Seven numbers: refusal, carried, places, transitions, arcs, entries, internals.
@@ -46,16 +41,21 @@ pub fn fuuqidhel_compile(
         return false;
     }
     match compile::compile(plan, kinds, rows, arcs) {
-        Compiling::Refused(number, carried) => tell(answer, &[number, carried, 0, 0, 0, 0, 0]),
-        Compiling::Made {
-            places,
-            transitions,
-            arcs: arc_count,
-            entries,
-            internals,
-        } => tell(
+        Ok(net) => tell(
             answer,
-            &[0, 0, places, transitions, arc_count, entries, internals],
+            &[
+                0,
+                0,
+                net.places,
+                net.transitions,
+                net.arcs,
+                net.entries,
+                net.internals,
+            ],
+        ),
+        Err(refusal) => tell(
+            answer,
+            &[refusal.fault.number(), refusal.carried, 0, 0, 0, 0, 0],
         ),
     }
     true
@@ -80,18 +80,17 @@ pub fn fuuqidhel_fire(
     if answer.len() < 2 {
         return false;
     }
-    match step::fire(
+    let lent = Lent {
         kinds,
         rows,
         arcs,
         places,
         transitions,
         arc_count,
-        marking,
-        step,
-    ) {
-        Fired::Done => tell(answer, &[0, 0]),
-        Fired::Refused(number, carried) => tell(answer, &[number, carried]),
+    };
+    match step::fire(&lent, marking, step) {
+        Ok(()) => tell(answer, &[0, 0]),
+        Err(refusal) => tell(answer, &[refusal.fault.number(), refusal.carried]),
     }
     true
 }
@@ -115,19 +114,18 @@ pub fn fuuqidhel_enabled(
     if answer.len() < 4 {
         return false;
     }
-    match enabling::enabled(
+    let lent = Lent {
         kinds,
         rows,
         arcs,
         places,
         transitions,
         arc_count,
-        marking,
-        list,
-    ) {
-        Enabling::Many(many) => tell(answer, &[0, 0, many, 0]),
-        Enabling::Stuck => tell(answer, &[0, 0, 0, 1]),
-        Enabling::Refused(number, carried) => tell(answer, &[number, carried, 0, 0]),
+    };
+    match enabling::enabled(&lent, marking, list) {
+        Ok(Enabling::Many(many)) => tell(answer, &[0, 0, many, 0]),
+        Ok(Enabling::Stuck) => tell(answer, &[0, 0, 0, 1]),
+        Err(refusal) => tell(answer, &[refusal.fault.number(), refusal.carried, 0, 0]),
     }
     true
 }
@@ -147,9 +145,17 @@ pub fn fuuqidhel_replay(
         return false;
     }
     match replay::replay(plan, record, marking) {
-        Ran::Finished(steps) => tell(answer, &[0, 0, steps, 1]),
-        Ran::Unfinished(steps) => tell(answer, &[0, 0, steps, 0]),
-        Ran::Refused(number, carried, steps) => tell(answer, &[number, carried, steps, 0]),
+        Ok(Ran::Finished(steps)) => tell(answer, &[0, 0, steps, 1]),
+        Ok(Ran::Unfinished(steps)) => tell(answer, &[0, 0, steps, 0]),
+        Err(stopped) => tell(
+            answer,
+            &[
+                stopped.refusal.fault.number(),
+                stopped.refusal.carried,
+                stopped.steps,
+                0,
+            ],
+        ),
     }
     true
 }

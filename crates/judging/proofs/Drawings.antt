@@ -11,6 +11,9 @@ use lib.Dec.{leb}
 use borrow.Author.Tests.{leb-true}
 use Rattle.field.specs.Limits.{plan_limit, place_limit, transition_limit, arc_limit}
 use Rattle.field.specs.Refusals.{too_many_places, too_many_transitions, too_many_arcs}
+use Rattle.std.specs.Prelude.{Result, Ok, Err}
+use Rattle.field.specs.Says.{says, number_of}
+use Rattle.field.specs.declared.Refusal.{Refusal}
 use Rattle.field.specs.Answer.{Answer, good, refused, ◌>>=◌, ◌>>◌, check}
 use Rattle.field.proofs.Answers.{good_not_refused, good_same, bind_good}
 use Rattle.algebra.specs.Expr.{Expr, actions}
@@ -48,14 +51,10 @@ use Rattle.tables.specs.inner.Rows.{listed_from, Whole}
 use Rattle.tables.proofs.Counted.{arcs_told}
 use Rattle.boxes.specs.inner.ArcCounts.{listed_arcs}
 use Rattle.judging.specs.inner.Judged.{check_places, check_transitions, check_arcs, judge, judged}
-use Rattle.judging.specs.inner.Ready.{ready_sizes, ready, FrontSays, TablesAre}
-use Rattle.judging.specs.inner.Judging as judging
-use Rattle.judging.specs.inner.Judging.{counts}
-use Rattle.judging.specs.inner.Judging.{counted, judged_says, net_counts, Drawn}
-use Rattle.judging.specs.declared.Judged.{Judged}
-use Rattle.judging.specs.declared.Judged.TheVariants as judgement
-use Rattle.judging.specs.declared.front.Judgement.{Judgement}
-use Rattle.judging.specs.declared.front.Judgement.TheVariants.{Refused, Ready}
+use Rattle.judging.specs.inner.Ready.{ready_sizes, sizes_told, ready, TablesAre}
+use Rattle.judging.specs.inner.Judging.{counted, counts_told, net_counts, Drawn}
+use Rattle.judging.specs.declared.NetCounts.{NetCounts}
+use Rattle.judging.specs.declared.front.Ready.{Ready}
 use Rattle.judging.proofs.Judges.{leb_cut, leb_is_true, leb_is_false, bytes_of_nodes, accept_judged}
 
 -- ---- 13
@@ -136,13 +135,19 @@ asked_12 plan E e =
     let (x, b, i) = bind_good (check_transitions F) _ E h in
     subst (Asked12 plan) (good_same F E i) (record { read = p; loops_fine = l; places_few = few_places F a; transitions_few = few_transitions F b })
 
-pub is_ready : (plan : List ℕ) (nodes many : ℕ) (table table' counts counts' list' : List ℕ) (r : Judgement) → FrontSays r (ready plan)
-    → TablesAre r (judged plan) table table' counts counts' list' → r ≡ Ready nodes many → IsReady plan nodes many table' counts' list'
+pub is_ready : (plan : List ℕ) (sizes : Ready) (table table' counts counts' list' : List ℕ) (r : Result Ready Refusal) → says sizes_told r ≡ ready plan
+    → TablesAre r (judged plan) table table' counts counts' list' → r ≡ Ok sizes → IsReady plan sizes.nodes sizes.transitions table' counts' list'
 unfolding ready_sizes
-is_ready plan nodes many table table' counts counts' list' r s w e =
-    go (judged plan) refl (subst (λ q. FrontSays q (ready plan)) e s) (subst (λ q. TablesAre q (judged plan) table table' counts counts' list') e w)
+is_ready plan sizes table table' counts counts' list' r s w e =
+    go (judged plan) refl (sym (ap (says sizes_told) e) ∙ s) (subst (λ q. TablesAre q (judged plan) table table' counts counts' list') e w)
   where
-    go : (a : Answer Expr) → judged plan ≡ a → good (record { nodes = nodes; transitions = many }) ≡ (a >>= λ E. good (ready_sizes E)) → TablesAre (Ready nodes many) a table table' counts counts' list'
+    abbrev nodes : ℕ
+    nodes = sizes.nodes
+
+    abbrev many : ℕ
+    many = sizes.transitions
+
+    go : (a : Answer Expr) → judged plan ≡ a → good (sizes_told sizes) ≡ (a >>= λ E. good (ready_sizes E)) → TablesAre (Ok sizes) a table table' counts counts' list'
         → IsReady plan nodes many table' counts' list'
     go (refused n c) p f w = good_not_refused _ _ n c (sym f) refl
     go (good E) p f w =
@@ -172,13 +177,13 @@ is_ready plan nodes many table table' counts counts' list' r s w e =
         }
 
 -- ---- the answers of the whole
-pub not_ready : (plan : List ℕ) (n c : ℕ) (r : Judgement) → FrontSays r (ready plan) → r ≡ Refused n c → refused n c ≡ net_counts plan
+pub not_ready : (plan : List ℕ) (e : Refusal) (r : Result Ready Refusal) → says sizes_told r ≡ ready plan → r ≡ Err e → refused (number_of e.fault) e.carried ≡ net_counts plan
 unfolding net_counts
-not_ready plan n c r s e = go (judged plan) (subst (λ q. FrontSays q (ready plan)) e s) ∙ ap (λ a. a >>= λ E. good (counts_of (net_of E))) (sym (accept_judged plan))
+not_ready plan e r s is = go (judged plan) (sym (ap (says sizes_told) is) ∙ s) ∙ ap (λ a. a >>= λ E. good (counts_of (net_of E))) (sym (accept_judged plan))
   where
-    go : (a : Answer Expr) → refused n c ≡ (a >>= λ E. good (ready_sizes E)) → refused n c ≡ ((a >>= λ E. check_arcs E >> good E) >>= λ E. good (counts_of (net_of E)))
-    go (good E) f = good_not_refused _ _ n c refl (sym f)
-    go (refused m d) f = let p : n ≡ m = cc in let q : c ≡ d = cc in λ k. refused (p k) (q k)
+    go : (a : Answer Expr) → refused (number_of e.fault) e.carried ≡ (a >>= λ E. good (ready_sizes E)) → refused (number_of e.fault) e.carried ≡ ((a >>= λ E. check_arcs E >> good E) >>= λ E. good (counts_of (net_of E)))
+    go (good E) f = good_not_refused _ _ (number_of e.fault) e.carried refl (sym f)
+    go (refused m d) f = let p : number_of e.fault ≡ m = cc in let q : e.carried ≡ d = cc in λ k. refused (p k) (q k)
 
 module _ (plan : List ℕ) (nodes many : ℕ) (table counts list : List ℕ) (w : IsReady plan nodes many table counts list) where
   abbrev E : Expr
@@ -218,15 +223,13 @@ module _ (plan : List ℕ) (nodes many : ℕ) (table counts list : List ℕ) (w 
         let l = arcs_are e in
         λ k. record { places = a k + (b k + c k); transitions = how_many k; arcs = l k; entries = a k; internals = b k }
 
-    pub fine_says : {arcs : ℕ} → arcs ≡ listed_arcs (told_arcs index) (listed_from list 0 many) → arcs ≤ arc_limit → (r : Judged) → judging.Told counts many arcs r → judged_says r ≡ net_counts plan
+    pub fine_says : {arcs : ℕ} → arcs ≡ listed_arcs (told_arcs index) (listed_from list 0 many) → arcs ≤ arc_limit → (c : NetCounts) → counts_told c ≡ counted counts many arcs → good (counts_told c) ≡ net_counts plan
     unfolding net_counts
-    fine_says e h (judgement.Refused n c) t = absurd t
-    fine_says e h (judgement.Fine ps n count es is) t =
-        ap good (t ∙ counts_same e) ∙ sym (ap (λ a. a >>= λ F. good (counts_of (net_of F))) (accept_by (arcs_few E (omega (arith, arcs_are e)))))
+    fine_says e h c t = ap good (t ∙ counts_same e) ∙ sym (ap (λ a. a >>= λ F. good (counts_of (net_of F))) (accept_by (arcs_few E (omega (arith, arcs_are e)))))
 
-    pub fine_drawn : {arcs : ℕ} → arcs ≡ listed_arcs (told_arcs index) (listed_from list 0 many) → arcs ≤ arc_limit → (r : Judged) → judging.Told counts many arcs r → (F : Expr) → accept plan ≡ good F → Drawn r lists index list F
-    fine_drawn e h (judgement.Refused n c) t F a = tt
-    fine_drawn e h (judgement.Fine ps n count es is) t F a =
+    pub fine_drawn : {arcs : ℕ} → arcs ≡ listed_arcs (told_arcs index) (listed_from list 0 many) → arcs ≤ arc_limit → (c : NetCounts) → counts_told c ≡ counted counts many arcs
+        → (F : Expr) → accept plan ≡ good F → Drawn (Ok c) lists index list F
+    fine_drawn e h c t F a =
         let same : E ≡ F = good_same E F (sym (accept_by (arcs_few E (omega (arith, arcs_are e)))) ∙ a) in
-        let m : n ≡ many = ap (λ (c : Counts). c.transitions) t in
-        (subst (λ X. Whole lists index list n X) same (subst (λ k. Whole lists index list k E) (sym m) whole), omega (arith, w.room, m))
+        let m : c.transitions ≡ many = ap (λ (c : Counts). c.transitions) t in
+        (subst (λ X. Whole lists index list c.transitions X) same (subst (λ k. Whole lists index list k E) (sym m) whole), omega (arith, w.room, m))

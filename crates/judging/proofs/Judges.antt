@@ -11,6 +11,10 @@ use lib.Dec.{T, leb}
 use borrow.Author.Tests.{leb-true, leb-false}
 use Rattle.field.specs.Limits.{plan_limit, place_limit, transition_limit}
 use Rattle.field.specs.Refusals.{too_many_places, too_many_transitions}
+use Rattle.std.specs.Prelude.{Result, Ok, Err}
+use Rattle.field.specs.Says.{says, number_of}
+use Rattle.field.specs.declared.Refusal.{Refusal}
+use Rattle.field.specs.declared.Fault.TheVariants.{TooManyPlaces}
 use Rattle.field.specs.Answer.{Answer, good, refused, ◌>>=◌, ◌>>◌, check}
 use Rattle.field.proofs.Answers.{good_not_refused, good_same, bind_good}
 use Rattle.algebra.specs.Expr.{Expr, action, sequence, choice, parallel, loop, scope, actions}
@@ -19,9 +23,8 @@ use Rattle.plan.specs.Reading.{read_plan}
 use Rattle.plan.specs.Loops.{bytes, check_loops}
 use Rattle.plan.specs.Bytes.{named}
 use Rattle.plan.specs.inner.Nodes.{node_count, node_table, sizes_of}
-use Rattle.plan.specs.inner.Says.{says, read_sizes, RowsAre}
-use Rattle.plan.specs.declared.PlanRead.{PlanRead}
-use Rattle.plan.specs.declared.PlanRead.TheVariants.{Refused, Read}
+use Rattle.plan.specs.inner.Says.{sizes_told as read_told, read_sizes, RowsAre}
+use Rattle.plan.specs.declared.Sizes as read
 use Rattle.plan.specs.inner.Table.{Table, values}
 use Rattle.plan.proofs.NodeTable.{rows_length}
 use Rattle.plan.proofs.Exact.{read_within, read_length}
@@ -30,13 +33,10 @@ use Rattle.plan.proofs.ReadBack.{encode_length}
 use Rattle.boxes.specs.Counts.{cut, entry_count, internal_count, exit_count, places_cut_off, check_size}
 use Rattle.boxes.specs.inner.NodeCounts.{box_counts, node_counts}
 use Rattle.boxes.specs.Compile.{accept}
-use Rattle.transitions.specs.inner.Numbers.{flat, Fits, ListIs}
-use Rattle.transitions.specs.declared.Listed.{Listed}
-use Rattle.transitions.specs.declared.Listed.TheVariants.{Many, TooMany}
+use Rattle.transitions.specs.inner.Numbers.{flat, too_many}
 use Rattle.judging.specs.inner.Judged.{check_places, check_transitions, check_arcs, judge, judged}
-use Rattle.judging.specs.inner.Ready.{ready_sizes, ready, FrontSays, ListIsOf, CountsAreOf, TableIsOf, TablesAre, Few, Fine}
-use Rattle.judging.specs.declared.front.Judgement.{Judgement}
-use Rattle.judging.specs.declared.front.Judgement.TheVariants as judgement
+use Rattle.judging.specs.inner.Ready.{Sizes, sizes_told, ready_sizes, ready, ListIsOf, CountsAreOf, TableIsOf, TablesAre, Fine}
+use Rattle.judging.specs.declared.front.Ready.{Ready}
 
 -- A test of a count that is cut off is the test of the count.
 pub leb_cut : (limit n : ℕ) → leb (cut limit n) limit ≡ leb n limit
@@ -71,24 +71,8 @@ transitions_many : (E : Expr) → transition_limit < length (transitions 0 E) �
 unfolding check_transitions
 transitions_many E h = ap (λ b. check b too_many_transitions 0) (leb_cut transition_limit (length (transitions 0 E)) ∙ leb_is_false h)
 
-not_ready : {A : Type 0} {n c nodes many : ℕ} → judgement.Refused n c ≡ judgement.Ready nodes many → A
-not_ready e = absurd (let z : ◌≡◌ {A = ℕ} 0 1 = cc in omega arith)
-
--- What the list's answer says of its length.
-module _ (E : Expr) (list' : List ℕ) where
-  pub too_many_few : (r : Listed) → ListIs r (transitions 0 E) list' → r ≡ TooMany → Few E (judgement.Refused too_many_transitions 0) list'
-  too_many_few r w e = record { says = ap (λ r. r >> good (ready_sizes E)) (sym (transitions_many E (subst (λ q. ListIs q (transitions 0 E) list') e w))); lists = λ nodes many e. not_ready e }
-
-  pub listed_few : (n nodes : ℕ) (r : Listed) → Fits r → ListIs r (transitions 0 E) list' → r ≡ Many n → nodes ≡ node_count E → Few E (judgement.Ready nodes n) list'
-  unfolding ready_sizes
-  listed_few n nodes r f w e d =
-      let h : n ≤ transition_limit = subst Fits e f in
-      let m : (n ≡ length (transitions 0 E)) × (take (3 * n) list' ≡ flat (transitions 0 E)) = subst (λ q. ListIs q (transitions 0 E) list') e w in
-      let c : check_transitions E ≡ good tt = transitions_few E (omega (arith, m.0)) in
-      record {
-        says = (λ i. good (record { nodes = d i; transitions = m.0 i })) ∙ ap (λ r. r >> good (ready_sizes E)) (sym c);
-        lists = λ _ _ _. ap (λ k. take (3 * k) list') (sym m.0) ∙ m.1;
-      }
+refused_not_ready : {A : Type 0} {e : Refusal} {sizes : Ready} → ◌≡◌ {A = Result Ready Refusal} (Err e) (Ok sizes) → A
+refused_not_ready e = absurd (let z : ◌≡◌ {A = ℕ} 0 1 = cc in omega arith)
 
 -- The counts of the whole plan stand first.
 pub counts_first : (E : Expr) (l : List ℕ) → (get_or (node_counts E ++ l) 0 0 ≡ entry_count E) × (get_or (node_counts E ++ l) 1 0 ≡ internal_count E) × (get_or (node_counts E ++ l) 2 0 ≡ exit_count E)
@@ -125,31 +109,37 @@ judge_same E F e =
     let (w, _, h) = bind_good (check_transitions E) _ F g in
     good_same E F h
 
--- A refusal of the first or the second test.
-stops : (E : Expr) (n c : ℕ) (counts counts' list' : List ℕ) → judge E ≡ refused n c → Fine E (judgement.Refused n c) counts counts' list'
-stops E n c counts counts' list' e = record { says = ap (λ r. r >>= λ F. good (ready_sizes F)) (sym e); written = λ nodes many g. not_ready g }
+-- A refusal of one of the tests.
+stops : (E : Expr) (e : Refusal) (counts counts' list' : List ℕ) → judge E ≡ refused (number_of e.fault) e.carried → Fine E (Err e) counts counts' list'
+stops E e counts counts' list' j = record { told = ap (λ r. r >>= λ F. good (ready_sizes F)) (sym j); written = λ sizes g. refused_not_ready g }
 
-pub loops_stop : (E : Expr) (n c : ℕ) (counts counts' list' : List ℕ) → refused n c ≡ check_loops E → Fine E (judgement.Refused n c) counts counts' list'
-loops_stop E n c counts counts' list' e = stops E n c counts counts' list' (judge_by E (sym e) refl)
-
-then_sizes : (r : Answer (Unit {0})) (E : Expr) → (r >> good (ready_sizes E)) ≡ ((r >> good E) >>= λ F. good (ready_sizes F))
-then_sizes (good u) E = refl
-then_sizes (refused n c) E = refl
+pub loops_stop : (E : Expr) (e : Refusal) (counts counts' list' : List ℕ) → refused (number_of e.fault) e.carried ≡ check_loops E → Fine E (Err e) counts counts' list'
+loops_stop E e counts counts' list' h = stops E e counts counts' list' (judge_by E (sym h) refl)
 
 module _ (E : Expr) (nodes : ℕ) (counts counts' list' : List ℕ) (loops : good tt ≡ check_loops E) (count : nodes ≡ node_count E)
     (counted : counts' ≡ node_counts E ++ drop (3 * nodes) counts) where
-  pub places_stop : fits counts' ≡ false → Fine E (judgement.Refused too_many_places 0) counts counts' list'
-  places_stop f =
-      stops E too_many_places 0 counts counts' list'
-      (judge_by E (sym loops) (places_by E (drop (3 * nodes) counts) counted ∙ ap (λ b. check b too_many_places 0) f))
+  pub places_stop : (e : Refusal) → e ≡ record { fault = TooManyPlaces; carried = 0 } → fits counts' ≡ false → Fine E (Err e) counts counts' list'
+  places_stop e is f =
+      stops E e counts counts' list'
+      (judge_by E (sym loops) (places_by E (drop (3 * nodes) counts) counted ∙ ap (λ b. check b too_many_places 0) f)
+      ∙ ap (λ e. refused (number_of e.fault) e.carried) (sym is))
 
-  pub all_fine : fits counts' ≡ true → (r : Judgement) → Few E r list' → Fine E r counts counts' list'
-  all_fine f r w =
-      let e : judge E ≡ (check_transitions E >> good E) =
-      judge_by E (sym loops) (places_by E (drop (3 * nodes) counts) counted ∙ ap (λ b. check b too_many_places 0) f) in
+  judged_last : fits counts' ≡ true → judge E ≡ (check_transitions E >> good E)
+  judged_last f = judge_by E (sym loops) (places_by E (drop (3 * nodes) counts) counted ∙ ap (λ b. check b too_many_places 0) f)
+
+  pub transitions_stop : fits counts' ≡ true → (e : Refusal) → e ≡ too_many → transition_limit < length (transitions 0 E) → Fine E (Err e) counts counts' list'
+  transitions_stop f e is h =
+      stops E e counts counts' list'
+      (judged_last f ∙ ap (λ r. r >> good E) (transitions_many E h) ∙ ap (λ e. refused (number_of e.fault) e.carried) (sym is))
+
+  pub all_fine : fits counts' ≡ true → (n : ℕ) → n ≤ transition_limit → (n ≡ length (transitions 0 E)) × (take (3 * n) list' ≡ flat (transitions 0 E))
+      → Fine E (Ok (record { nodes = nodes; transitions = n })) counts counts' list'
+  unfolding ready_sizes
+  all_fine f n few m =
+      let j : judge E ≡ good E = judged_last f ∙ ap (λ r. r >> good E) (transitions_few E (omega (arith, m.0))) in
       record {
-        says = subst (λ a. FrontSays r a) (then_sizes (check_transitions E) E ∙ ap (λ a. a >>= λ F. good (ready_sizes F)) (sym e)) w.says;
-        written = λ n m g. (counted ∙ ap (λ n. node_counts E ++ drop (3 * n) counts) count, w.lists n m g);
+        told = (λ i. good (record { nodes = count i; transitions = m.0 i })) ∙ ap (λ r. r >>= λ F. good (ready_sizes F)) (sym j);
+        written = λ _ _. (counted ∙ ap (λ n. node_counts E ++ drop (3 * n) counts) count, ap (λ k. take (3 * k) list') (sym m.0) ∙ m.1);
       }
 
 -- A field takes 3 bytes at least.
@@ -174,12 +164,15 @@ pub record IsRead (plan : List ℕ) (nodes : ℕ) (table table' : List ℕ) : Ty
   pub three_bytes : 3 * nodes ≤ length plan
   pub rows : TableIsOf expr table table'
 
-pub is_read : (plan : List ℕ) (nodes acts : ℕ) (table table' : List ℕ) (r : PlanRead) → says r ≡ read_sizes plan → RowsAre (read_plan plan) table table' → r ≡ Read nodes acts
-    → IsRead plan nodes table table'
+pub is_read : (plan : List ℕ) (sizes : read.Sizes) (table table' : List ℕ) (r : Result read.Sizes Refusal) → says read_told r ≡ read_sizes plan → RowsAre (read_plan plan) table table'
+    → r ≡ Ok sizes → IsRead plan sizes.nodes table table'
 unfolding sizes_of node_table
-is_read plan nodes acts table table' r s w e = go (read_plan plan) refl (sym (ap says e) ∙ s) w
+is_read plan sizes table table' r s w e = go (read_plan plan) refl (sym (ap (says read_told) e) ∙ s) w
   where
-    go : (a : Answer Expr) → read_plan plan ≡ a → good (record { nodes = nodes; actions = acts }) ≡ (a >>= λ E. good (sizes_of E)) → RowsAre a table table' → IsRead plan nodes table table'
+    abbrev nodes : ℕ
+    nodes = sizes.nodes
+
+    go : (a : Answer Expr) → read_plan plan ≡ a → good (read_told sizes) ≡ (a >>= λ E. good (sizes_of E)) → RowsAre a table table' → IsRead plan nodes table table'
     go (refused n c) p f w = good_not_refused _ _ n c (sym f) refl
     go (good E) p f w =
         let b = limits_within E (read_within plan E p) in
@@ -197,32 +190,31 @@ is_read plan nodes acts table table' r s w e = go (read_plan plan) refl (sym (ap
         }
 
 -- The judgement of a plan that is refused as it is read, and of one that is read.
-pub unread : (plan : List ℕ) (n c : ℕ) (r : PlanRead) → says r ≡ read_sizes plan → r ≡ Refused n c → refused n c ≡ ready plan
+pub unread : (plan : List ℕ) (e : Refusal) (r : Result read.Sizes Refusal) → says read_told r ≡ read_sizes plan → r ≡ Err e → refused (number_of e.fault) e.carried ≡ ready plan
 unfolding judged
-unread plan n c r s e = go (read_plan plan) (sym (ap says e) ∙ s)
+unread plan e r s is = go (read_plan plan) (sym (ap (says read_told) is) ∙ s)
   where
-    go : (a : Answer Expr) → refused n c ≡ (a >>= λ E. good (sizes_of E)) → refused n c ≡ ((a >>= judge) >>= λ E. good (ready_sizes E))
-    go (good E) f = good_not_refused _ _ n c refl (sym f)
-    go (refused m d) f = let p : n ≡ m = cc in let q : c ≡ d = cc in λ i. refused (p i) (q i)
+    go : (a : Answer Expr) → refused (number_of e.fault) e.carried ≡ (a >>= λ E. good (sizes_of E)) → refused (number_of e.fault) e.carried ≡ ((a >>= judge) >>= λ E. good (ready_sizes E))
+    go (good E) f = good_not_refused _ _ (number_of e.fault) e.carried refl (sym f)
+    go (refused m d) f = let p : number_of e.fault ≡ m = cc in let q : e.carried ≡ d = cc in λ i. refused (p i) (q i)
 
 module _ (plan : List ℕ) (nodes : ℕ) (table table' counts counts' list' : List ℕ) (w : IsRead plan nodes table table') where
-  pub front_answer : (r : Judgement) → Fine w.expr r counts counts' list' → FrontSays r (ready plan)
+  pub front_answer : (r : Result Ready Refusal) → Fine w.expr r counts counts' list' → says sizes_told r ≡ ready plan
   unfolding judged
-  front_answer r fine = subst (λ a. FrontSays r a) (ap (λ a. (a >>= judge) >>= λ E. good (ready_sizes E)) (sym w.read)) fine.says
+  front_answer r fine = fine.told ∙ ap (λ a. (a >>= judge) >>= λ E. good (ready_sizes E)) (sym w.read)
 
-  ready_tables : (n m : ℕ) → Fine w.expr (judgement.Ready n m) counts counts' list' → (a : Answer Expr) → judge w.expr ≡ a
-      → TablesAre (judgement.Ready n m) a table table' counts counts' list'
-  ready_tables n m fine (refused k c) e = tt
-  ready_tables n m fine (good F) e =
+  ready_tables : (sizes : Ready) → Fine w.expr (Ok sizes) counts counts' list' → (a : Answer Expr) → judge w.expr ≡ a → TablesAre (Ok sizes) a table table' counts counts' list'
+  ready_tables sizes fine (refused k c) e = tt
+  ready_tables sizes fine (good F) e =
       let d : w.expr ≡ F = judge_same w.expr F e in
-      let (x, y) = fine.written n m refl in
+      let (x, y) = fine.written sizes refl in
       subst (λ E. TableIsOf E table table' × CountsAreOf E counts counts' × ListIsOf E list') d (w.rows, x, y)
 
-  pub front_tables : (r : Judgement) → Fine w.expr r counts counts' list' → TablesAre r (judged plan) table table' counts counts' list'
+  pub front_tables : (r : Result Ready Refusal) → Fine w.expr r counts counts' list' → TablesAre r (judged plan) table table' counts counts' list'
   unfolding judged
-  front_tables (judgement.Refused n c) fine = tt
-  front_tables (judgement.Ready n m) fine =
-      subst (λ a. TablesAre (judgement.Ready n m) (a >>= judge) table table' counts counts' list') (sym w.read) (ready_tables n m fine (judge w.expr) refl)
+  front_tables (Err e) fine = tt
+  front_tables (Ok sizes) fine =
+      subst (λ a. TablesAre (Ok sizes) (a >>= judge) table table' counts counts' list') (sym w.read) (ready_tables sizes fine (judge w.expr) refl)
 
 -- What is left of the compile call's judgement: the test of the arcs.
 in_turn : (l p t : Answer (Unit {0})) (arcs : Expr → Answer (Unit {0})) (E : Expr)

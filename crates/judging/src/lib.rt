@@ -7,83 +7,93 @@ pub mod front;
 ghost use Rattle.std.specs.Prelude.{◌≡◌, ◌*◌, ◌≤◌, length};
 ghost use Rattle.field.specs.Limits.{plan_limit};
 ghost use Rattle.field.specs.Answer.{good};
+ghost use Rattle.field.specs.Says.{says};
 ghost use Rattle.algebra.specs.Expr.{Expr};
 ghost use Rattle.boxes.specs.Compile.{accept};
-ghost use Rattle.transitions.specs.inner.Numbers.{most};
-ghost use Rattle.judging.specs.inner.Judging.{judged_says, net_counts, counted, Told, Drawn};
+ghost use Rattle.boxes.specs.inner.Counted.{counts_numbers};
+ghost use Rattle.transitions.specs.inner.Numbers.{most, list_numbers};
+ghost use Rattle.judging.specs.inner.Judging.{counts_told, net_counts, counted, Drawn};
 
-use crate::front::{Judgement, front};
-use boxes::counts::counts_at;
+use std::fmt;
+
+use boxes::counts::{Counts, counts_at};
+use field::{Fault, Refusal};
+use lists::Node;
+use plan::table::Row;
+use spread::Told;
 use spread::walk::spread;
 use tables::rows::count_arcs;
-use transitions::MOST;
+use transitions::Transition;
 
-// Plans of at most so many bytes get work room of their size, so that a small plan does not pay for the limits.
+use crate::front::front;
+
+/// Plans of at most so many bytes get work room of their size, so that a small plan does not pay for the limits.
 pub const SMALL_PLAN: usize = 512;
 
-// The work room for so many bytes: two numbers of the node table, one of the counts and four of the lists for each byte.
-pub const SMALL_ROWS: usize = 2 * SMALL_PLAN;
+/// A node takes 3 bytes at least.
+pub const SMALL_NODES: usize = SMALL_PLAN / 3 + 1;
 
-pub const SMALL_LISTS: usize = 4 * SMALL_PLAN;
-
-pub const LISTS: usize = 4 * field::PLAN_LIMIT;
-
-// The index has three numbers to an action, the list of transitions three to a transition.
-pub const INDEX: usize = 3 * field::ACTION_LIMIT;
-
-pub const LIST: usize = 3 * MOST;
-
-// The first refusal with what it carries; or the counts of the net.
-#[derive(Clone, Copy)]
-pub enum Judged {
-    Refused(usize, usize),
-    Fine {
-        places: usize,
-        transitions: usize,
-        arcs: usize,
-        entries: usize,
-        internals: usize,
-    },
+/// The counts of a net: 01, "Net tables", "The compiler's answer counts places, transitions and arcs".
+#[derive(Clone, Copy, Debug, PartialEq, Eq)]
+pub struct NetCounts {
+    pub places: usize,
+    pub transitions: usize,
+    pub arcs: usize,
+    pub entries: usize,
+    pub internals: usize,
 }
 
-// The net is fine, with the counts of node 0, which is the whole plan.
-fn told(counts: &[u16], transitions: usize, arcs: usize) -> Judged
-    ensures { Told counts.now transitions arcs result }
+impl fmt::Display for NetCounts {
+    /// 01, "Known nets": "First line: entries, internals, exits, transitions, arcs".
+    fn fmt<W: fmt::Write>(&self, f: &mut fmt::Formatter<W>) -> fmt::Result {
+        let exits = self
+            .places
+            .saturating_sub(self.entries)
+            .saturating_sub(self.internals);
+        write!(
+            f,
+            "net {} {} {exits} {} {}",
+            self.entries, self.internals, self.transitions, self.arcs
+        )
+    }
+}
+
+// The counts of node 0, which is the whole plan, with those of the transitions and arcs.
+fn told(counts: &[Counts], transitions: usize, arcs: usize) -> NetCounts
+    ensures { counts_told result ≡ counted (counts_numbers counts.now) transitions arcs }
 {
     let whole = counts_at(counts, 0);
-    Judged::Fine {
-        places: whole.entries + (whole.internals + whole.exits),
-        transitions: transitions,
-        arcs: arcs,
-        entries: whole.entries,
-        internals: whole.internals,
+    let entries = usize::from(whole.entries);
+    let internals = usize::from(whole.internals);
+    NetCounts {
+        places: entries + (internals + usize::from(whole.exits)),
+        transitions,
+        arcs,
+        entries,
+        internals,
     }
 }
 
-// From plan bytes to the counts of the net. Where it is fine the lists tell where each action's places stand, the index of each action's
-// node, and the list has the transitions. A field takes 3 bytes at least and a node eleven numbers of the lists, so four for each byte are room enough.
+/// From plan bytes to the counts of the net. Where it is fine the lists tell where each action's places stand, the index of each action's
+/// node, and the list has the transitions. A field takes 3 bytes at least, so a row for each three bytes is room enough in the first three.
 pub fn judge(
     plan: &[u8],
-    table: &mut [u16],
-    counts: &mut [u16],
-    lists: &mut [u16],
-    index: &mut [u16],
-    list: &mut [u16],
-) -> Judged
-    requires plan_in_bounds { length plan.now ≤ plan_limit → (2 * length plan.now ≤ length table.old) × (length plan.now ≤ length counts.old) × (4 * length plan.now ≤ length lists.old) }
-    requires in_bounds { (768 ≤ length index.old) × (3 * most ≤ length list.old) }
-    ensures says { judged_says result ≡ net_counts plan.now }
-    ensures drawn { (E : Expr) → accept plan.now ≡ good E → Drawn result lists.new index.new list.new E }
+    table: &mut [Row],
+    counts: &mut [Counts],
+    lists: &mut [Node],
+    index: &mut [Told],
+    list: &mut [Transition],
+) -> Result<NetCounts, Refusal>
+    requires plan_in_bounds { length plan.now ≤ plan_limit → (length plan.now ≤ 3 * length table.old) × (length plan.now ≤ 3 * length counts.old) × (length plan.now ≤ 3 * length lists.old) }
+    requires in_bounds { (256 ≤ length index.old) × (most ≤ length list.old) }
+    ensures says { says counts_told result ≡ net_counts plan.now }
+    ensures drawn { (E : Expr) → accept plan.now ≡ good E → Drawn result (lists_numbers lists.new) (index_numbers index.new) (list_numbers list.new) E }
 {
-    match front(plan, table, counts, list) {
-        Judgement::Refused(number, carried) => Judged::Refused(number, carried),
-        Judgement::Ready { nodes, transitions } => {
-            spread(table, nodes, counts, lists, index);
-            let arcs = count_arcs(index, list, transitions);
-            if field::ARC_LIMIT < arcs {
-                return Judged::Refused(field::TOO_MANY_ARCS, 0);
-            }
-            told(counts, transitions, arcs)
-        }
+    let ready = front(plan, table, counts, list)?;
+    spread(&table[..ready.nodes], counts, lists, index);
+    let arcs = count_arcs(index, &list[..ready.transitions]);
+    if field::ARC_LIMIT < arcs {
+        return Err(Fault::TooManyArcs.at(0));
     }
+    Ok(told(counts, ready.transitions, arcs))
 }

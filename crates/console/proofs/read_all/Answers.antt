@@ -4,6 +4,6 @@ use Rattle.console.proofs.read_all.Goals as goal
 
 pub loop-at-preserved : goal.loop-at-preserved
 loop-at-preserved g c =
-    let read = c.in-Ok.ensures in
+    let read = c.in_ok-read.ensures in
     let before = c.loop-at.invariant in
-    (read.fits, more _ _ _ c.loop-at.buffer c.read_at.new.buffer c.loop-at.at c.in-Ok.n read.front before.1 read.bytes)
+    (read.fits, more _ _ _ c.loop-at.buffer c.read_at.new.buffer c.loop-at.at c.in_ok-read.read read.front before.1 read.bytes)

@@ -1,19 +1,18 @@
 -- What the judgement says and leaves in the work tables.
-use Rattle.std.specs.Prelude.{ℕ, ◌+◌, ◌*◌, ◌≤◌, ◌≡◌, List, length, get_or}
-use Rattle.field.specs.Answer.{Answer, good, refused, ◌>>=◌}
+use Rattle.std.specs.Prelude.{ℕ, ◌+◌, ◌*◌, ◌≤◌, ◌≡◌, List, length, get_or, Result, Ok, Err}
+use Rattle.field.specs.Answer.{Answer, good, ◌>>=◌}
 use Rattle.algebra.specs.Expr.{Expr}
 use Rattle.algebra.specs.Arcs.{net_of}
 use Rattle.boxes.specs.Compile.{Counts, counts_of, accept}
 use Rattle.tables.specs.inner.Rows.{Whole}
-use Rattle.judging.specs.declared.Judged.{Judged}
-use Rattle.judging.specs.declared.Judged.TheVariants as judged
+use Rattle.field.specs.declared.Refusal.{Refusal}
+use Rattle.judging.specs.declared.NetCounts.{NetCounts}
 
 abbrev pub counts : ℕ → ℕ → ℕ → ℕ → ℕ → Counts
 counts places transitions arcs entries internals = record { places = places; transitions = transitions; arcs = arcs; entries = entries; internals = internals }
 
-abbrev pub judged_says : Judged → Answer Counts
-judged_says (judged.Refused number carried) = refused number carried
-judged_says (judged.Fine places transitions arcs entries internals) = good (counts places transitions arcs entries internals)
+abbrev pub counts_told : NetCounts → Counts
+counts_told c = counts c.places c.transitions c.arcs c.entries c.internals
 
 -- "Plan: 1; then fields in byte order ..; 10 after all reading; then 11, 12, 13": the counts of the plan's net, or the first refusal.
 unfoldable pub net_counts : List ℕ → Answer Counts
@@ -24,12 +23,7 @@ net_counts plan = accept plan >>= λ E. good (counts_of (net_of E))
 abbrev pub counted : List ℕ → ℕ → ℕ → Counts
 counted table transitions arcs = counts (get_or table 0 0 + (get_or table 1 0 + get_or table 2 0)) transitions arcs (get_or table 0 0) (get_or table 1 0)
 
--- The net is fine, with these counts.
-abbrev pub Told : List ℕ → ℕ → ℕ → Judged → Type 0
-Told table transitions arcs (judged.Refused number carried) = ⊥
-Told table transitions arcs (judged.Fine places n count entries internals) = counts places n count entries internals ≡ counted table transitions arcs
-
 -- The work tables that a plan leaves which is fine, whose expression is E.
-abbrev pub Drawn : Judged → List ℕ → List ℕ → List ℕ → Expr → Type 0
-Drawn (judged.Refused number carried) lists index list E = Unit {0}
-Drawn (judged.Fine places transitions arcs entries internals) lists index list E = Whole lists index list transitions E × (3 * transitions ≤ length list)
+abbrev pub Drawn : Result NetCounts Refusal → List ℕ → List ℕ → List ℕ → Expr → Type 0
+Drawn (Err e) lists index list E = Unit {0}
+Drawn (Ok c) lists index list E = Whole lists index list c.transitions E × (3 * c.transitions ≤ length list)
