@@ -1,5 +1,6 @@
--- What counting the places does at one node, and what is known after the nodes from k on.
-use Rattle.std.specs.Prelude.{ℕ, ◌+◌, ◌*◌, ◌≤◌, ◌≡◌, List, cond, length, get_or, set, eqb}
+-- What counting the places does at one node, and what is known after the nodes from k on. A table of counts is seen as its numbers, three to a node.
+use Rattle.std.specs.Prelude.{ℕ, ◌+◌, ◌*◌, ◌≤◌, ◌≡◌, List, [], ◌∷◌, cond, length, get_or, eqb}
+use Rattle.std.specs.List.{flat_map}
 use Rattle.field.specs.Limits.{place_limit}
 use Rattle.plan.specs.inner.Table.{tag_at, after_at, Known}
 use Rattle.boxes.specs.Counts.{cut}
@@ -9,11 +10,9 @@ use Rattle.boxes.specs.declared.counts.Counts.{Counts}
 abbrev pub counts : ℕ → ℕ → ℕ → Counts
 counts entries internals exits = record { entries = entries; internals = internals; exits = exits }
 
--- Each count is a number of 16 bits.
-pub record Small (c : Counts) : Type 0 where
-  pub entries : c.entries ≤ 65535
-  pub internals : c.internals ≤ 65535
-  pub exits : c.exits ≤ 65535
+-- The table as numbers.
+abbrev pub counts_numbers : List Counts → List ℕ
+counts_numbers table = flat_map (λ c. c.entries ∷ (c.internals ∷ (c.exits ∷ []))) table
 
 -- The three numbers of node k.
 abbrev pub counts_at : List ℕ → ℕ → Counts
@@ -47,17 +46,8 @@ counts_by rows table k =
     (cond (eqb (tag_at rows k) 4) (parallel_counts e f)
     (loop_counts e f (counts_at table (after_at rows (after_at rows (k + 1)))))))))
 
--- The table with the counts of node k.
-abbrev pub stored : List ℕ → ℕ → Counts → List ℕ
-stored table k c = set (set (set table (3 * k) c.entries) (3 * k + 1) c.internals) (3 * k + 2) c.exits
-
--- The nodes below k are counted too.
-pub record Counted (rows : List ℕ) (k : ℕ) (before after : List ℕ) : Type 0 where
+-- The nodes from k on are counted, of rows that are so many, and what lies behind their counts is as before.
+pub record Counted (rows : List ℕ) (count k : ℕ) (before after : List ℕ) : Type 0 where
   pub long : length after ≡ length before
-  pub room : 3 * k ≤ length before
-  pub kept : (i : ℕ) → 3 * k ≤ i → get_or after i 0 ≡ get_or before i 0
-  pub known : (count : ℕ) → Known rows count 3 box_counts k before → Known rows count 3 box_counts 0 after
-
--- The nodes from `low` to `high` are counted: whatever counts those below `low` from there counts all below `high`.
-abbrev pub CountsDown : List ℕ → ℕ → ℕ → List ℕ → List ℕ → Type 0
-CountsDown rows low high entry exit = (after : List ℕ) → Counted rows low exit after → Counted rows high entry after
+  pub kept : (i : ℕ) → 3 * count ≤ i → get_or after i 0 ≡ get_or before i 0
+  pub known : Known rows count 3 box_counts k after
