@@ -3,7 +3,7 @@ use Prim.Native.Nat.{ℕ, ◌+◌, ◌*◌, ◌≤◌, ◌<◌}
 use native.Mathlib.Omega.{arith}
 use native.Mathlib.Nat.{add-zero}
 use mathlib.Core.Path.{◌≡◌, refl, sym, ◌∙◌, ap}
-use mathlib.Core.List.{List, [], ◌∷◌}
+use mathlib.Core.List.{List}
 use lib.ListN.{length, get_or, set}
 use lib.Seq.{sets}
 use Rattle.field.proofs.NumbersOfRows.{length_numbers, number_of_row, number_past_rows, numbers_set}
@@ -21,7 +21,7 @@ module _ (table : List Counts) (k : ℕ) where
   pub counts_of_row : (d : Counts) → k < length table → counts_at (counts_numbers table) k ≡ get_or table k d
   counts_of_row d h =
       let number : (j : ℕ) → j < 3 → get_or (counts_numbers table) (3 * k + j) 0 ≡ get_or (row_numbers (get_or table k d)) j 0
-              = λ j l. number_of_row row_numbers 3 (λ c. refl) table k j d h l in
+      = λ j l. number_of_row row_numbers 3 (λ c. refl) table k j d h l in
       same_counts (sym first_number ∙ number 0 (omega arith)) (number 1 (omega arith)) (number 2 (omega arith))
 
   pub counts_past_rows : length table ≤ k → counts_at (counts_numbers table) k ≡ counts 0 0 0

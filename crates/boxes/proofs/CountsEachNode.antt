@@ -111,7 +111,7 @@ turn {rows} {before} {count} {high} table {c} some inside room j e =
     let k = high - 1 in
     let p : high ≡ k + 1 = omega arith in
     let counted = one_counted rows count before (counts_numbers table) k (omega arith) (omega (arith, counts_length table))
-            (subst (λ n. Counted rows count n before (counts_numbers table)) p j) in
+    (subst (λ n. Counted rows count n before (counts_numbers table)) p j) in
     subst (Counted rows count k before)
     (sym (counts_stored table k c (omega arith) ∙ ap (λ d. sets (counts_numbers table) (3 * k) (row_numbers d)) e))
     counted

@@ -22,7 +22,11 @@ pub struct Counts {
 pub fn counts_at(counts: &[Counts], k: usize) -> Counts
     ensures { result ≡ counts_at (counts_numbers counts.now) k }
 {
-    if k < counts.len() { counts[k] } else { Counts::default() }
+    if k < counts.len() {
+        counts[k]
+    } else {
+        Counts::default()
+    }
 }
 
 // At most one above the limit: enough to refuse by, and a number of 16 bits. A sum or a product of counts is cut off at once, so that none on the
@@ -102,14 +106,27 @@ fn counts_of(rows: &[Row], k: usize, counts: &[Counts]) -> Counts
             internals: 0,
             exits: 1,
         },
-        Ok(Tag::Sequence) => of_sequence(counts_at(counts, first), counts_at(counts, after(rows, first))),
-        Ok(Tag::Choice) => of_choice(counts_at(counts, first), counts_at(counts, after(rows, first))),
-        Ok(Tag::Parallel) => of_parallel(counts_at(counts, first), counts_at(counts, after(rows, first))),
+        Ok(Tag::Sequence) => of_sequence(
+            counts_at(counts, first),
+            counts_at(counts, after(rows, first)),
+        ),
+        Ok(Tag::Choice) => of_choice(
+            counts_at(counts, first),
+            counts_at(counts, after(rows, first)),
+        ),
+        Ok(Tag::Parallel) => of_parallel(
+            counts_at(counts, first),
+            counts_at(counts, after(rows, first)),
+        ),
         Ok(Tag::Scope) => counts_at(counts, first),
         // No row of a plan has another tag.
         Ok(Tag::Loop) | Err(_) => {
             let second = after(rows, first);
-            of_loop(counts_at(counts, first), counts_at(counts, second), counts_at(counts, after(rows, second)))
+            of_loop(
+                counts_at(counts, first),
+                counts_at(counts, second),
+                counts_at(counts, after(rows, second)),
+            )
         }
     }
 }

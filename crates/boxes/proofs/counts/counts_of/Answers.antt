@@ -1,11 +1,11 @@
 -- `counts_of` meets its contract: each arm answers one case of `counts_of_tag`.
-use Rattle.std.proofs.Common.{Ok, Err, rules}
-use Rattle.plan.specs.declared.table.Tag.TheVariants.{Action, Sequence, Choice, Parallel, Loop, Scope}
+use Rattle.std.proofs.Common.{Ok, refl, arith}
+use Rattle.std.proofs.lemmas.Grind.{common_steps}
+use Rattle.plan.specs.declared.table.Tag.TheVariants.{Action, Sequence, Choice, Parallel, Scope}
 use Rattle.plan.specs.inner.Numbers.{table_numbers}
 use Rattle.boxes.specs.inner.Counted.{counts_numbers}
-use Rattle.boxes.proofs.CountedByTag.{by_tag, by_no_tag}
+use Rattle.boxes.proofs.CountedByTag.{by_tag}
 use Rattle.boxes.proofs.counts.counts_of.Goals as goal
-use Rattle.boxes.proofs.counts.counts_of.Goals.{in-Ok+in-Loop-1, in-Err-1}
 
 pub returns-in-Ok-Action : goal.returns-in-Ok-Action
 returns-in-Ok-Action c =
@@ -29,7 +29,4 @@ returns-in-Ok-Scope c =
 
 pub returns-in-Ok-Loop : goal.returns-in-Ok-Loop
 returns-in-Ok-Loop c =
-    elim c.in-Ok-Loop-1.branch [
-      in-Ok+in-Loop-1 w ↦ by_tag (table_numbers c.args.rows.now) (counts_numbers c.args.counts.now) c.args.k (Ok Loop) c.row_at.ensures c.tag.ensures (cc) (cc)
-    | in-Err-1 w ↦ by_no_tag (table_numbers c.args.rows.now) (counts_numbers c.args.counts.now) c.args.k c.row_at.ensures c.tag.ensures (search rules) (cc)
-    ]
+    by_tag (table_numbers c.args.rows.now) (counts_numbers c.args.counts.now) c.args.k c.tag.result c.row_at.ensures c.tag.ensures refl (grind (arith, common_steps))
