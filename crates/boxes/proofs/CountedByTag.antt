@@ -3,7 +3,7 @@
 use Prim.Native.Nat.{ℕ, ◌+◌, ◌*◌, ◌≤◌}
 use native.Mathlib.Omega.{arith}
 use native.Mathlib.Nat.{mul-le-mul}
-use mathlib.Core.Path.{◌≡◌, ◌∙◌, ap, sym}
+use mathlib.Core.Path.{◌≡◌, ◌∙◌, ap}
 use mathlib.Core.List.{List}
 use Rattle.std.specs.Prelude.{Result}
 use Rattle.field.specs.Limits.{place_limit}
@@ -18,12 +18,11 @@ use Rattle.boxes.specs.declared.counts.Counts.{Counts}
 pub same_counts : {a b c d e f : ℕ} → a ≡ d → b ≡ e → c ≡ f → counts a b c ≡ counts d e f
 same_counts p q r = λ k. record { entries = p k; internals = q k; exits = r k }
 
--- What is counted in the arm of a tag.
-pub by_tag : (rows table : List ℕ) (k : ℕ) (found : Result Tag Fault) {row : Row} {tag : Result Tag Fault} {r : Counts}
-    → row ≡ row_of rows k → tag ≡ spelt row.tag → tag ≡ found → r ≡ counts_of_tag rows table k found → r ≡ counts_by rows table k
+-- What is counted by the tag that was read.
+pub by_tag : (rows table : List ℕ) (k : ℕ) {row : Row} {tag : Result Tag Fault} {r : Counts}
+    → row ≡ row_of rows k → tag ≡ spelt row.tag → r ≡ counts_of_tag rows table k tag → r ≡ counts_by rows table k
 unfolding counts_by
-by_tag rows table k found row read is r =
-    r ∙ ap (counts_of_tag rows table k) (sym is ∙ read ∙ ap (λ (w : Row). spelt w.tag) row)
+by_tag rows table k row read r = r ∙ ap (counts_of_tag rows table k) (read ∙ ap (λ (w : Row). spelt w.tag) row)
 
 pub product_fits : {a b : ℕ} → a ≤ 65535 → b ≤ 65535 → a * b ≤ 4294836225
 product_fits {a} {b} p q = let z : a * b ≤ 65535 * 65535 = mul-le-mul p q in omega arith

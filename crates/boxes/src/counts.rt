@@ -100,32 +100,24 @@ fn counts_of(rows: &[Row], k: usize, counts: &[Counts]) -> Counts
     ensures { result ≡ counts_by (table_numbers rows.now) (counts_numbers counts.now) k }
 {
     let first = k + 1;
+    let operand = |k: usize| counts_at(counts, k);
     match row_at(rows, k).tag() {
         Ok(Tag::Action) => Counts {
             entries: 1,
             internals: 0,
             exits: 1,
         },
-        Ok(Tag::Sequence) => of_sequence(
-            counts_at(counts, first),
-            counts_at(counts, after(rows, first)),
-        ),
-        Ok(Tag::Choice) => of_choice(
-            counts_at(counts, first),
-            counts_at(counts, after(rows, first)),
-        ),
-        Ok(Tag::Parallel) => of_parallel(
-            counts_at(counts, first),
-            counts_at(counts, after(rows, first)),
-        ),
-        Ok(Tag::Scope) => counts_at(counts, first),
+        Ok(Tag::Sequence) => of_sequence(operand(first), operand(after(rows, first))),
+        Ok(Tag::Choice) => of_choice(operand(first), operand(after(rows, first))),
+        Ok(Tag::Parallel) => of_parallel(operand(first), operand(after(rows, first))),
+        Ok(Tag::Scope) => operand(first),
         // No row of a plan has another tag.
         Ok(Tag::Loop) | Err(_) => {
             let second = after(rows, first);
             of_loop(
-                counts_at(counts, first),
-                counts_at(counts, second),
-                counts_at(counts, after(rows, second)),
+                operand(first),
+                operand(second),
+                operand(after(rows, second)),
             )
         }
     }
