@@ -17,8 +17,7 @@ use Rattle.boxes.specs.Counts.{entry_count, internal_count, exit_count}
 use Rattle.boxes.specs.inner.NodeCounts.{box_counts, node_counts}
 use Rattle.boxes.specs.inner.Counted.{counts, counts_at, sequence_counts, choice_counts, parallel_counts, loop_counts, counts_by, row_numbers, counts_numbers, Counted}
 use Rattle.boxes.specs.declared.counts.Counts.{Counts}
-use Rattle.boxes.proofs.CountedByTag.{same_counts}
-use Rattle.boxes.proofs.CountRows.{counts_length, counts_stored}
+use Rattle.boxes.proofs.CountRows.{same_counts, counts_length, counts_stored}
 
 -- The counts of an expression.
 abbrev expr_counts : Expr → Counts

@@ -95,6 +95,7 @@ fn of_loop(e: Counts, f: Counts, g: Counts) -> Counts
 }
 
 // The counts of node k from those of its operands.
+#[tactic(auto, unfolding(crate::specs::inner::Counted::counts_by))]
 fn counts_of(rows: &[Row], k: usize, counts: &[Counts]) -> Counts
     requires { k ≤ 65535 }
     ensures { result ≡ counts_by (table_numbers rows.now) (counts_numbers counts.now) k }
