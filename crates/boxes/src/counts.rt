@@ -1,4 +1,5 @@
 // 01, "Box construction": how many entries, internals and exits each node of the node table has, cut off at one above the limit of places.
+// The node number falls, so that a node's operands, whose numbers are higher, are counted before it.
 ghost use Rattle.std.specs.Prelude.{◌≡◌, ◌++◌, ◌+◌, ◌*◌, ◌<◌, ◌≤◌, length, drop};
 ghost use Rattle.field.specs.Limits.{place_limit};
 ghost use Rattle.algebra.specs.Expr.{Expr};
@@ -6,7 +7,7 @@ ghost use Rattle.plan.specs.inner.Table.{Table};
 ghost use Rattle.plan.specs.inner.Numbers.{table_numbers};
 ghost use Rattle.boxes.specs.Counts.{cut};
 ghost use Rattle.boxes.specs.inner.NodeCounts.{node_counts};
-ghost use Rattle.boxes.specs.inner.Counted.{counts_numbers, counts_at, sequence_counts, choice_counts, parallel_counts, loop_counts, counts_by};
+ghost use Rattle.boxes.specs.inner.Counted.{counts_numbers, counts_at, sequence_counts, choice_counts, parallel_counts, loop_counts, counts_by, CountsDown};
 
 use plan::table::{Row, Tag, after, row_at};
 
@@ -124,13 +125,47 @@ fn counts_of(rows: &[Row], k: usize, counts: &[Counts]) -> Counts
     }
 }
 
+// Counts node k.
+fn count_node(rows: &[Row], k: usize, counts: &mut [Counts])
+    requires { (k < 1366) × (k < length counts.old) }
+    ensures { CountsDown (table_numbers rows.now) k (k + 1) (counts_numbers counts.old) (counts_numbers counts.new) }
+{
+    counts[k] = counts_of(rows, k, counts);
+}
+
+// Counts four nodes from k on, the last first.
+fn count_four(rows: &[Row], k: usize, counts: &mut [Counts])
+    requires { (k + 4 ≤ 1366) × (k + 4 ≤ length counts.old) }
+    ensures { CountsDown (table_numbers rows.now) k (k + 4) (counts_numbers counts.old) (counts_numbers counts.new) }
+{
+    count_node(rows, k + 3, counts);
+    count_node(rows, k + 2, counts);
+    count_node(rows, k + 1, counts);
+    count_node(rows, k, counts);
+}
+
+// Counts the nodes below `high`. 01, "Form by location", wants recursion over the node table here, the node number falling, and so it is no loop;
+// four nodes to a call while there are as many, because a call costs more than a node and calls stay few inside each other.
+fn count(rows: &[Row], high: usize, counts: &mut [Counts])
+    requires { (high ≤ 1366) × (high ≤ length counts.old) }
+    ensures { CountsDown (table_numbers rows.now) 0 high (counts_numbers counts.old) (counts_numbers counts.new) }
+{
+    if high == 0 {
+        return;
+    }
+    if high < 4 {
+        count_node(rows, high - 1, counts);
+        count(rows, high - 1, counts);
+        return;
+    }
+    count_four(rows, high - 4, counts);
+    count(rows, high - 4, counts);
+}
+
 /// The counts of every node of the plan whose node table the rows are; what lies behind them is not written.
 pub fn count_places(rows: &[Row], counts: &mut [Counts])
     requires { (length rows.now ≤ 1366) × (length rows.now ≤ length counts.old) }
     ensures { (E : Expr) → Table (table_numbers rows.now) (length rows.now) E → counts_numbers counts.new ≡ node_counts E ++ drop (3 * length rows.now) (counts_numbers counts.old) }
 {
-    // A node's operands have higher numbers, and so they are counted before it.
-    for k in (0..rows.len()).rev() {
-        counts[k] = counts_of(rows, k, counts);
-    }
+    count(rows, rows.len(), counts);
 }
