@@ -1,12 +1,12 @@
 -- `count_four` meets its contract: each node is counted where the one behind it left off.
--- Assumes nothing.
-use native.Mathlib.Omega.{arith}
+use Rattle.std.proofs.Common.{arith}
 use Rattle.boxes.proofs.CountsEachNode.{moved}
 use Rattle.boxes.proofs.counts.count_four.Goals as goal
 
 pub returns : goal.returns
 returns c =
-    λ after j.
-    moved (omega arith) (c.count_node.ensures after
-    (moved (omega arith) (c.count_node-2.ensures after
-    (moved (omega arith) (c.count_node-3.ensures after (c.count_node-4.ensures after j))))))
+    λ count before j.
+    c.count_node-4.ensures count before
+    (c.count_node-3.ensures count before
+    (moved (omega arith) (c.count_node-2.ensures count before
+    (moved (omega arith) (c.count_node.ensures count before (moved (omega arith) j))))))
