@@ -41,7 +41,8 @@ struct Header<'a> {
 
 // The field at the front of the bytes: "21 is under 3 bytes left or a length beyond what encloses the field, and both stand before 22."
 fn read_header(s: &[u8]) -> Result<Header<'_>, Fault>
-    ensures { (at : ℕ) → says_at at header_read result ≡ header at s.now }
+    ensures says { (at : ℕ) → says_at at header_read result ≡ header at s.now }
+    ensures fits { IfOk result (λ h. 3 + length h.body.now ≤ length s.now) }
 {
     let [tag, high, low, left @ ..] = s else {
         return Err(Fault::RecordFieldCut);

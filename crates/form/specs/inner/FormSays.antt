@@ -1,5 +1,5 @@
 -- What the answers of the code that reads a step say: 01's number and values. The refusals of step form carry the step's offset.
-use Rattle.std.specs.Prelude.{ℕ, List, Option, None, Some, Result, Ok, Err, length, map, take, eqb, leb}
+use Rattle.std.specs.Prelude.{ℕ, List, Option, None, Some, Result, Ok, Err, map, take, eqb, leb}
 use Rattle.field.specs.Refusals.{wrong_tag, wrong_length}
 use Rattle.field.specs.Answer.{Answer, good, refused, ◌>>◌, check}
 use Rattle.field.specs.Field.{tag_of, length_of, body_of}
