@@ -59,9 +59,9 @@ module _ (at : ℕ) (s : List ℕ) where
   header_long h k = rw (le-leb 3 (length s) h, lt-leb (length_of s) (length s - 3) k)
 
   -- the body is lent as a part of what is behind the three bytes
-  pub header_read : 3 ≤ length s → (n : ℕ) → n ≡ length_of s → n ≤ length s - 3 → good (tag_of s, take n (take (length s - 3) (drop 3 s))) ≡ header at s
+  pub header_whole : 3 ≤ length s → (n : ℕ) → n ≡ length_of s → n ≤ length s - 3 → good (tag_of s, take n (take (length s - 3) (drop 3 s))) ≡ header at s
   unfolding header
-  header_read h n e k = rw (header_passes at s h (omega arith), rest_part s 3, e)
+  header_whole h n e k = rw (header_passes at s h (omega arith), rest_part s 3, e)
 
 -- What is known of a tag and a body that were read.
 record Front (s : List ℕ) (t : ℕ) (b : List ℕ) : Type 0 where

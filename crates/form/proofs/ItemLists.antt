@@ -1,13 +1,17 @@
 -- Reading the items of a body one after another: what is left of the body, and the items so far.
 -- Passing over the bytes of an item is dropping them, and storing an item adds it behind the items so far.
 use Prim.Native.Nat.{ℕ, zero, suc, ◌+◌, ◌-◌, ◌≤◌, ◌<◌}
-use mathlib.Core.Path.{◌≡◌, refl, sym, ap, ap₂, ◌∙◌}
+use mathlib.Core.Path.{◌≡◌, refl, sym, ap, ap₂, subst, ◌∙◌}
 use mathlib.Core.List.{List, [], ◌∷◌, ◌++◌, append_assoc, append-nil, map}
 use native.Mathlib.Omega.{arith}
 use native.Mathlib.Numerals.{add-one}
-use lib.ListN.{length, drop, set}
+use lib.ListN.{length, get_or, drop, set}
+use lib.Seq.{get_or-set_same, get_or-set_other}
+use lib.Dec.{eqb, ltb}
+use borrow.Author.Tests.{eqb-true, eqb-false, ltb-true, ltb-false}
 use Rattle.std.specs.Prelude.{Option, None, Some}
 use Rattle.std.proofs.lemmas.List.{map-set, take_more_set, length-map}
+use Rattle.field.proofs.Tests.{test}
 use Rattle.field.specs.Answer.{Answer, good, refused, ◌>>=◌}
 use Rattle.algebra.specs.Item.{first}
 use Rattle.form.specs.Form.{read_item, read_items}
@@ -76,3 +80,13 @@ module _ (at : ℕ) (body rest : List ℕ) (items : List code.Item) (count least
   items_turn h r p b e next least_next left behind_it =
       inv ∙ rw (least_next, behind_it, one_read at least rest r h b e, items_more count items r.item p)
       (behind_behind (items_in count items) (code_item r.item ∷ []) (read_items at 0 (r.item.first + 1) (drop r.bytes rest)))
+
+-- What holds of each number written so far holds of each with one more.
+pub below_set : (ts : List ℕ) (k t n : ℕ) → k < length ts → ((i : ℕ) → i < k → get_or ts i 0 < n) → t < n → (i : ℕ) → i < k + 1 → get_or (set ts k t) i 0 < n
+below_set ts k t n l f h i g =
+    test (eqb i k)
+    (λ e. subst (λ (x : ℕ). get_or (set ts k t) x 0 < n) (sym (eqb-true i k e)) (subst (λ (x : ℕ). x < n) (sym (get_or-set_same ts k t 0 l)) h))
+    (λ e. let other = eqb-false i k e in subst (λ (x : ℕ). x < n) (sym (get_or-set_other ts k i t 0 other)) (f i (below i k g other)))
+  where
+    below : (i k : ℕ) → i < k + 1 → (i ≡ k → ⊥) → i < k
+    below i k g o = test (ltb i k) (λ t. ltb-true i k t) (λ t. absurd (o (let z : k ≤ i = ltb-false i k t in omega arith)))

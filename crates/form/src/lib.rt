@@ -4,7 +4,7 @@
 
 ghost use Rattle.std.specs.Prelude.{◌≡◌, ℕ, ◌+◌, ◌≤◌, length, replicate, None, IfOk};
 ghost use Rattle.form.specs.Form.{read_item, read_items, read_lent_step};
-ghost use Rattle.form.specs.inner.FormSays.{says_at, header_read, header, item_read, items_in, step_head};
+ghost use Rattle.form.specs.inner.FormSays.{says_at, header_read, header, item_read, items_in, ItemsFit, step_head};
 
 use field::Fault;
 
@@ -32,7 +32,7 @@ pub fn no_items() -> [Item; MOST_ITEMS]
     [Item::default(); MOST_ITEMS]
 }
 
-// A field of a record.
+// A field of a record: 01, "House form".
 #[derive(Clone, Copy)]
 struct Header<'a> {
     tag: u8,
@@ -63,6 +63,7 @@ pub fn read_item(s: &[u8], least: usize) -> Result<ItemRead, Fault>
     ensures fits { IfOk result (λ r. (least ≤ r.item.first) × (1 ≤ r.bytes) × (r.bytes ≤ length s.now)) }
 {
     let field = read_header(s)?;
+    // "21 hex with one action, or 22 hex with two, the a side first"
     let item = match (field.tag, field.body) {
         (0x21, &[first]) => Item {
             first,
@@ -87,12 +88,13 @@ pub fn read_item(s: &[u8], least: usize) -> Result<ItemRead, Fault>
 /// The items of a step's body, left to right; how many there are.
 pub fn read_items(body: &[u8], items: &mut [Item; MOST_ITEMS]) -> Result<usize, Fault>
     ensures says { (at : ℕ) → says_at at (λ n. items_in n items.new) result ≡ read_items at 0 0 body.now }
-    ensures fits { IfOk result (λ n. (n ≤ 256) × (n ≤ length items.new)) }
+    ensures fits { IfOk result (ItemsFit items.new) }
 {
     let mut rest = body;
     let mut count = 0;
     let mut least = 0;
     while !rest.is_empty() {
+        // 01, "Form by location": the item's answer is taken apart by let-else, and a refusal leaves early.
         let answer = read_item(rest, least);
         let Ok(ItemRead { item, bytes }) = answer else {
             return answer.and(Ok(count));
@@ -123,7 +125,7 @@ pub fn step_head(s: &[u8]) -> Result<usize, Fault>
 /// The one step field that firing is lent: bytes behind it are refused before its items are read. How many items it has.
 pub fn read_lent_step(s: &[u8], items: &mut [Item; MOST_ITEMS]) -> Result<usize, Fault>
     ensures says { says_at 0 (λ n. items_in n items.new) result ≡ read_lent_step s.now }
-    ensures fits { IfOk result (λ n. (n ≤ 256) × (n ≤ length items.new)) }
+    ensures fits { IfOk result (ItemsFit items.new) }
 {
     let len = step_head(s)?;
     if len != s.len() - 3 {

@@ -4,7 +4,7 @@
 ghost use Rattle.std.specs.Prelude.{◌≡◌, ℕ, ◌+◌, ◌≤◌, length, drop, IfOk};
 ghost use Rattle.form.specs.Form.{read_step};
 ghost use Rattle.form.specs.inner.FormSays.{says_at, step_head};
-ghost use Rattle.record.specs.inner.RecordSays.{step_read};
+ghost use Rattle.record.specs.inner.RecordSays.{step_read, StepFits};
 
 use field::Fault;
 use form::{Item, MOST_ITEMS, read_items, step_head};
@@ -17,10 +17,11 @@ pub struct StepRead {
 }
 
 /// A record, and the offset of the step that is read next.
-#[derive(Clone, Copy)]
+#[derive(Clone, Copy, Debug)]
 pub struct RecordReader<'a> {
     bytes: &'a [u8],
     at: usize,
+    ghost within: { at ≤ length bytes.now },
 }
 
 impl<'a> RecordReader<'a> {
@@ -44,7 +45,6 @@ impl<'a> RecordReader<'a> {
 
     /// The length of the body of the step field at the reader's place.
     pub fn head(self) -> Result<usize, Fault>
-        requires { self.at ≤ length self.bytes.now }
         ensures says { says_at self.entry.at (λ n. n) result ≡ step_head self.entry.at (drop self.entry.at self.entry.bytes.now) }
         ensures fits { IfOk result (λ n. 3 + n ≤ length (drop self.entry.at self.entry.bytes.now)) }
     {
@@ -53,9 +53,8 @@ impl<'a> RecordReader<'a> {
 
     /// The step at the reader's place, behind which more may follow.
     pub fn step(self, items: &mut [Item; MOST_ITEMS]) -> Result<StepRead, Fault>
-        requires { self.at ≤ length self.bytes.now }
         ensures says { says_at self.entry.at (step_read items.new) result ≡ read_step self.entry.at (drop self.entry.at self.entry.bytes.now) }
-        ensures fits { IfOk result (λ s. (1 ≤ s.bytes) × (s.bytes ≤ length (drop self.entry.at self.entry.bytes.now)) × (s.items ≤ 256) × (s.items ≤ length items.new)) }
+        ensures fits { IfOk result (StepFits (length (drop self.entry.at self.entry.bytes.now)) items.new) }
     {
         let bytes = 3 + self.head()?;
         let items = read_items(&self.bytes[self.at + 3..self.at + bytes], items)?;
@@ -67,7 +66,7 @@ impl<'a> RecordReader<'a> {
 pub fn step_at(record: &[u8], at: usize, items: &mut [Item; MOST_ITEMS]) -> Result<StepRead, Fault>
     requires { at ≤ length «record».now }
     ensures says { says_at at (step_read items.new) result ≡ read_step at (drop at «record».now) }
-    ensures fits { IfOk result (λ s. (1 ≤ s.bytes) × (s.bytes ≤ length (drop at «record».now)) × (s.items ≤ 256) × (s.items ≤ length items.new)) }
+    ensures fits { IfOk result (StepFits (length (drop at «record».now)) items.new) }
 {
     RecordReader::new(record).past(at).step(items)
 }

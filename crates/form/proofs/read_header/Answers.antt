@@ -1,7 +1,7 @@
 -- `read_header`: its tests are the definition's, and a length is the number of its two bytes.
 use native.Mathlib.Omega.{arith}
 use lib.ListN.{length-drop}
-use Rattle.form.proofs.ItemForms.{rest_part, header_short, header_long, header_read}
+use Rattle.form.proofs.ItemForms.{rest_part, header_short, header_long, header_whole}
 use Rattle.form.proofs.read_header.Goals as goal
 
 pub returns-in_default-clause-says : goal.returns-in_default-clause-says
@@ -15,4 +15,4 @@ returns-then-left-len-clause-says c at =
 pub returns-clause-says : goal.returns-clause-says
 returns-clause-says c at =
     let left = simp (rest_part, length-drop) at c.if-left-len.false in
-    header_read at c.args.s.now (omega arith) c.from-len.result (omega arith) (omega arith)
+    header_whole at c.args.s.now (omega arith) c.from-len.result (omega arith) (omega arith)

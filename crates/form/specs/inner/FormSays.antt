@@ -1,5 +1,5 @@
 -- What the answers of the code that reads a step say: 01's number and values. The refusals of step form carry the step's offset.
-use Rattle.std.specs.Prelude.{ℕ, List, Option, None, Some, Result, Ok, Err, map, take, eqb, leb}
+use Rattle.std.specs.Prelude.{ℕ, ◌≤◌, List, Option, None, Some, Result, Ok, Err, length, map, take, eqb, leb}
 use Rattle.field.specs.Refusals.{wrong_tag, wrong_length}
 use Rattle.field.specs.Answer.{Answer, good, refused, ◌>>◌, check}
 use Rattle.field.specs.Field.{tag_of, length_of, body_of}
@@ -30,6 +30,10 @@ item_read r = record { item = code_item r.item; bytes = r.bytes }
 -- The items at the front of a list.
 abbrev pub items_in : ℕ → List code.Item → List Item
 items_in n items = take n (map code_item items)
+
+-- There are no more items than 256, and the list holds them.
+abbrev pub ItemsFit : List code.Item → ℕ → Type 0
+ItemsFit items n = (n ≤ 256) × (n ≤ length items)
 
 -- The tag and the body of the field at the front of the bytes.
 abbrev pub header_read : Header → ℕ × List ℕ
