@@ -1,4 +1,5 @@
-// 01, "Run records": "Records are read through a reader that keeps the record's bytes and its place together."
+// 01, "Run records": "Records are read through a reader that keeps the record's bytes and its place together." Its methods are thin above
+// `head_at`, which works on the bytes and the place (01, "Form by location"). Other callers use `step_at`.
 #![tactic(auto)]
 
 ghost use Rattle.std.specs.Prelude.{◌≡◌, ℕ, ◌+◌, ◌≤◌, length, drop, IfOk};
@@ -22,6 +23,15 @@ pub struct RecordReader<'a> {
     bytes: &'a [u8],
     at: usize,
     ghost within: { at ≤ length bytes.now },
+}
+
+// The length of the body of the step field at an offset.
+fn head_at(record: &[u8], at: usize) -> Result<usize, Fault>
+    requires { at ≤ length «record».now }
+    ensures says { says_at at (λ n. n) result ≡ step_head at (drop at «record».now) }
+    ensures fits { IfOk result (λ n. 3 + n ≤ length (drop at «record».now)) }
+{
+    step_head(&record[at..])
 }
 
 impl<'a> RecordReader<'a> {
@@ -48,7 +58,7 @@ impl<'a> RecordReader<'a> {
         ensures says { says_at self.entry.at (λ n. n) result ≡ step_head self.entry.at (drop self.entry.at self.entry.bytes.now) }
         ensures fits { IfOk result (λ n. 3 + n ≤ length (drop self.entry.at self.entry.bytes.now)) }
     {
-        step_head(&self.bytes[self.at..])
+        head_at(self.bytes, self.at)
     }
 
     /// The step at the reader's place, behind which more may follow.
