@@ -85,7 +85,7 @@ pub fn read_item(s: &[u8], least: usize) -> Result<ItemRead, Fault>
     })
 }
 
-/// The items of a step's body, left to right; how many there are.
+/// The items of a step's body, left to right; how many there are. What `items` holds behind them, or on a refusal, is left open.
 pub fn read_items(body: &[u8], items: &mut [Item; MOST_ITEMS]) -> Result<usize, Fault>
     ensures says { (at : ℕ) → says_at at (λ n. items_in n items.new) result ≡ read_items at 0 0 body.now }
     ensures fits { IfOk result (ItemsFit items.new) }

@@ -1,4 +1,5 @@
--- `read_header`: its tests are the definition's, and a length is the number of its two bytes.
+-- `read_header`: its tests are the definition's, in its order.
+-- A length is the number of its two bytes, and the body that is lent is as long as it says.
 use native.Mathlib.Omega.{arith}
 use lib.ListN.{length-drop}
 use Rattle.form.proofs.ItemForms.{rest_part, header_short, header_long, header_whole}

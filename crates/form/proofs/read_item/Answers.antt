@@ -1,4 +1,5 @@
 -- `read_item`: each answer is what the definition gives after the tests so far.
+-- An arm of the match tells the tag and the number of actions, and so the item that the body spells.
 use native.Mathlib.Omega.{arith}
 use mathlib.Core.Path.{◌≡◌, ap, ◌∙◌}
 use Rattle.form.specs.declared.Item.{Item}

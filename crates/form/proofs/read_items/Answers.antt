@@ -1,4 +1,5 @@
 -- `read_items`: what is left of the body gives the rest of the items, behind those so far.
+-- First actions rise and are bytes, so there are never more items than the least first action that may follow.
 use native.Mathlib.Omega.{arith}
 use lib.ListN.{length-set}
 use Rattle.std.proofs.Common.{rules}

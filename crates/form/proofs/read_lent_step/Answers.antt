@@ -1,4 +1,5 @@
 -- `read_lent_step`: the header, then the bytes behind, then the items.
+-- The definition's tests in its order: its third is made of two, of which the header has the first.
 use mathlib.Core.Path.{◌∙◌}
 use Rattle.form.proofs.ItemForms.{passed_on}
 use Rattle.form.proofs.StepForms.{lent_refused, lent_behind, lent_items}

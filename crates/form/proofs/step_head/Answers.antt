@@ -1,4 +1,5 @@
 -- `step_head`: each answer is what the definition gives after the tests so far.
+-- The header's tests are the first of them, and a refusal there is the step's.
 use Rattle.std.proofs.Common.{rules}
 use mathlib.Core.Path.{◌∙◌}
 use Rattle.form.proofs.ItemForms.{passed_on, head_cut, head_untagged, head_empty, head_read}
