@@ -9,10 +9,8 @@ fn never_fall(kinds: &[u8]) -> bool
     ensures { result ≡ neighbours leb (get_or kinds.now 0 0) (drop 1 kinds.now) }
 {
     let mut fine = true;
-    let mut i = 1;
-    while i < kinds.len() {
-        fine = fine & (kinds[i - 1] <= kinds[i]);
-        i += 1;
+    for i in 1..kinds.len() {
+        fine &= kinds[i - 1] <= kinds[i];
     }
     fine
 }
