@@ -63,8 +63,9 @@ fn chains_differ(rows: &[u16], transitions: usize, index: &Index) -> bool
     requires chains { Chains rows.now transitions index.now.heads index.now.nexts }
     ensures { result ≡ pairs_pass rows.now transitions }
 {
+    let chains = chain_count(rows, transitions);
     let mut stamps = [0; SECONDS];
-    for first in 0..chain_count(rows, transitions) {
+    for first in 0..chains {
         if !chain_differs(rows, transitions, index, first, &mut stamps) {
             return false;
         }

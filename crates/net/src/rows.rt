@@ -59,10 +59,10 @@ fn row_fits(lent: &Lent, start: usize, t: usize) -> bool
     let row = Row::at(lent.rows, t);
     let middle = start + usize::from(row.inputs);
     let end = middle + usize::from(row.outputs);
-    (usize::from(row.start) == start)
-        && end <= lent.arc_count
-        && codes_fit(row)
-        && list_fits(&lent.arcs[start..middle], lent.places)
+    if usize::from(row.start) != start || end > lent.arc_count || !codes_fit(row) {
+        return false;
+    }
+    list_fits(&lent.arcs[start..middle], lent.places)
         && list_fits(&lent.arcs[middle..end], lent.places)
 }
 

@@ -1,13 +1,10 @@
-use Prim.Native.Nat.{◌-◌, ◌≤◌}
+use Prim.Native.Nat.{◌-◌}
 use mathlib.Core.Path.{◌≡◌}
 use mathlib.Core.Bool.{◌&&◌}
-use lib.ListN.{length, get_or, drop}
+use lib.ListN.{get_or, drop}
 use lib.Dec.{ltb}
 use Rattle.net.specs.inner.Passes.{neighbours}
 use Rattle.net.proofs.rows.each_above.Given as goal
 
 abbrev pub invariant-loop-i : goal.invariant-loop-i
-invariant-loop-i l = (1 ≤ l.i) × (l.i ≤ length l.list) × (neighbours ltb (get_or l.list 0 0) (drop 1 l.list) ≡ (l.above && neighbours ltb (get_or l.list (l.i - 1) 0) (drop l.i l.list)))
-
-abbrev pub decreases-loop-i : goal.decreases-loop-i
-decreases-loop-i l = length l.list - l.i
+invariant-loop-i l = neighbours ltb (get_or l.list 0 0) (drop 1 l.list) ≡ (l.above && neighbours ltb (get_or l.list (l.i - 1) 0) (drop l.i l.list))
