@@ -6,7 +6,7 @@ use native.Mathlib.Numerals.{add-one}
 use mathlib.Core.Path.{◌≡◌, refl, sym, ap, ap₂, ◌∙◌}
 use mathlib.Core.Bool.{Bool, true, false, ◌&&◌}
 use mathlib.Core.List.{List, [], ◌∷◌}
-use borrow.Author.Tests.{eqb-true}
+use borrow.Author.Tests.{eqb-true, eq-eqb, ne_eqb}
 use lib.ListN.{length, get_or, drop, drop_of_length-le}
 use lib.Seq.{drop-cons}
 use lib.Dec.{T, eqb, leb, ltb, leb→le, le→leb, ltb→lt, lt→ltb}
@@ -72,7 +72,7 @@ list_some (x ∷ l) places h =
     ap₂ (λ b c. b && c) (T_true (leb 1 (suc (length l))) (le→leb 1 (suc (length l)) (omega arith))) (rising_to 0 places x l)
     ∙ ap₂ (λ b n. b && (neighbours ltb x l && ltb n places)) (T_true (leb 0 x) (le→leb 0 x (omega arith))) (last_at x l)
 
-pub kinds_are : (l : List ℕ) → (length l ≡ 0 → ⊥) → (eqb (get_or l 0 0) 1 && (neighbours leb (get_or l 0 0) (drop 1 l) && eqb (get_or l (length l - 1) 0) 3)) ≡ kinds_ordered l
+kinds_are : (l : List ℕ) → (length l ≡ 0 → ⊥) → (eqb (get_or l 0 0) 1 && (neighbours leb (get_or l 0 0) (drop 1 l) && eqb (get_or l (length l - 1) 0) 3)) ≡ kinds_ordered l
 unfolding kinds_ordered
 kinds_are [] h = absurd (h refl)
 kinds_are (k ∷ l) h =
@@ -84,16 +84,43 @@ kinds_are (k ∷ l) h =
     after_one true h = ap (λ n. kinds_after n l) (h refl)
     after_one false h = refl
 
+-- Kinds between a 1 and a 3 are in order if none falls; with something else at an end they are not.
+module _ (l : List ℕ) (some : length l ≡ 0 → ⊥) where
+  pub kinds_between : get_or l 0 0 ≡ 1 → get_or l (length l - 1) 0 ≡ 3 → neighbours leb (get_or l 0 0) (drop 1 l) ≡ kinds_ordered l
+  kinds_between e f =
+      sym (and_yes (neighbours leb (get_or l 0 0) (drop 1 l)))
+      ∙ ap₂ (λ b c. b && (neighbours leb (get_or l 0 0) (drop 1 l) && c)) (sym (eq-eqb (get_or l 0 0) 1 e)) (sym (eq-eqb (get_or l (length l - 1) 0) 3 f))
+      ∙ kinds_are l some
+
+  pub kinds_first : (get_or l 0 0 ≡ 1 → ⊥) → false ≡ kinds_ordered l
+  kinds_first h = ap (λ b. b && (neighbours leb (get_or l 0 0) (drop 1 l) && eqb (get_or l (length l - 1) 0) 3)) (sym (ne_eqb (get_or l 0 0) 1 h)) ∙ kinds_are l some
+
+  pub kinds_last : (get_or l (length l - 1) 0 ≡ 3 → ⊥) → false ≡ kinds_ordered l
+  kinds_last h =
+      and_no (eqb (get_or l 0 0) 1) (neighbours leb (get_or l 0 0) (drop 1 l))
+      ∙ ap (λ c. eqb (get_or l 0 0) 1 && (neighbours leb (get_or l 0 0) (drop 1 l) && c)) (sym (ne_eqb (get_or l (length l - 1) 0) 3 h))
+      ∙ kinds_are l some
+    where
+      and_no : (a b : Bool) → false ≡ (a && (b && false))
+      and_no true true = refl
+      and_no true false = refl
+      and_no false b = refl
+
+pub kinds_few : (l : List ℕ) → length l < 2 → false ≡ kinds_ordered l
+unfolding kinds_ordered kinds_after
+kinds_few [] h = refl
+kinds_few (k ∷ []) h = go (eqb k 1)
+  where
+    go : (b : Bool) → false ≡ (b && false)
+    go true = refl
+    go false = refl
+kinds_few (k ∷ j ∷ l) h = absurd (omega arith)
+
 -- A list with nothing in it.
 pub list_none : (l : List ℕ) (places : ℕ) → length l ≡ 0 → false ≡ list_passes places l
 unfolding list_passes
 list_none [] places h = refl
 list_none (x ∷ l) places h = absurd (omega arith)
-
-pub kinds_none : (l : List ℕ) → length l ≡ 0 → false ≡ kinds_ordered l
-unfolding kinds_ordered
-kinds_none [] h = refl
-kinds_none (k ∷ l) h = absurd (omega arith)
 
 -- In a list of one number there is nothing to compare, and in a list of two there is one thing.
 module _ (test : ℕ → ℕ → Bool) where

@@ -19,9 +19,8 @@ fn never_fall(kinds: &[u8]) -> bool
 pub fn in_order(kinds: &[u8]) -> bool
     ensures { result ≡ kinds_ordered kinds.now }
 {
-    let count = kinds.len();
-    if count == 0 {
-        return false;
+    match kinds {
+        [1, .., 3] => never_fall(kinds),
+        _ => false,
     }
-    (kinds[0] == 1) & (never_fall(kinds) & (kinds[count - 1] == 3))
 }

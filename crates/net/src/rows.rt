@@ -20,24 +20,21 @@ fn each_above(list: &[u16]) -> bool
 fn rise(list: &[u16]) -> bool
     ensures { result ≡ neighbours ltb (get_or list.now 0 0) (drop 1 list.now) }
 {
-    if list.len() < 2 {
-        return true;
+    match list {
+        [] | [_] => true,
+        [a, b] => a < b,
+        _ => each_above(list),
     }
-    if list.len() == 2 {
-        return list[0] < list[1];
-    }
-    each_above(list)
 }
 
 // There is a place number, each is above the one before it and below the number of places: so the last one is.
 fn list_fits(list: &[u16], places: usize) -> bool
     ensures { result ≡ list_passes places list.now }
 {
-    let count = list.len();
-    if count == 0 {
-        return false;
+    match list {
+        [] => false,
+        [.., last] => rise(list) && usize::from(*last) < places,
     }
-    rise(list) && usize::from(list[count - 1]) < places
 }
 
 // 01, "Refusal numbers": "a label that is 128 or above 255, an action above 255 (65,535 as second aside)".
