@@ -9,6 +9,7 @@ ghost use Rattle.net.specs.inner.Chains.{Chains};
 
 mod chains;
 mod kinds;
+mod lists;
 mod pairs;
 mod rows;
 mod tables;

@@ -1,29 +1,18 @@
 // The rows of a net's transitions with their lists of places in the arcs.
-ghost use Rattle.std.specs.Prelude.{◌≡◌, ◌+◌, ◌*◌, ◌<◌, ◌≤◌, length, get_or, drop, ltb};
-ghost use Rattle.net.specs.inner.Passes.{neighbours, codes_pass, list_passes, row_passes, rows_pass};
+ghost use Rattle.std.specs.Prelude.{◌≡◌, ◌+◌, ◌*◌, ◌≤◌, length, ltb};
+ghost use Rattle.net.specs.inner.Passes.{each_next, codes_pass, list_passes, row_passes, rows_pass};
 
+use crate::lists::each_next;
 use crate::tables::{Lent, Row};
 
-// Each place number is above the one before it. All are compared, with no way out before the end, so that the machine can compare many at once.
-fn each_above(list: &[u16]) -> bool
-    requires { 1 ≤ length list.now }
-    ensures { result ≡ neighbours ltb (get_or list.now 0 0) (drop 1 list.now) }
-{
-    let mut above = true;
-    for i in 1..list.len() {
-        above &= list[i - 1] < list[i];
-    }
-    above
-}
-
-// The same for a list of any length. Most lists have one number or two, and are done before the comparing of many at once is set up.
+// Each place number is above the one before it. Most lists have one number or two, and are done before the comparing of many at once is set up.
 fn rise(list: &[u16]) -> bool
-    ensures { result ≡ neighbours ltb (get_or list.now 0 0) (drop 1 list.now) }
+    ensures { result ≡ each_next ltb list.now }
 {
     match list {
         [] | [_] => true,
-        [a, b] => a < b,
-        _ => each_above(list),
+        [one, next] => one < next,
+        _ => each_next(list, |one, next| one < next),
     }
 }
 
