@@ -3,7 +3,7 @@ ghost use Rattle.std.specs.Prelude.{◌≡◌, true, ◌+◌, ◌*◌, ◌<◌, 
 ghost use Rattle.net.specs.inner.Chains.{Chains, Kept};
 ghost use Rattle.net.specs.inner.Passes.{second_or_256, pairs_pass};
 
-use crate::tables::Row;
+use crate::tables::Rows;
 
 // What stands behind the last transition of a chain: no transition has this number.
 const CHAIN_END: u16 = 65535;
@@ -30,19 +30,18 @@ impl Index {
 
     // From the last transition down to the first, each goes to the front of its chain: so the numbers on a chain rise. Where the second
     // actions rise too, no two transitions have the same pair, and nobody has to look for one.
-    pub fn link(&mut self, rows: &[u16], transitions: usize) -> bool
-        requires transitions_bound { (transitions ≤ 1024) × (6 * transitions ≤ length rows.now) }
-        requires head_value { self.old.heads ≡ replicate 256 65535 }
-        ensures chains { Chains rows.now transitions self.new.heads self.new.nexts }
-        ensures kept { Kept rows.now transitions self.old.nexts self.new.nexts }
-        ensures transitions_value { result ≡ true → pairs_pass rows.now transitions ≡ true }
+    pub(crate) fn link(&mut self, rows: &Rows) -> bool
+        requires { self.old.heads ≡ replicate 256 65535 }
+        ensures chains { Chains rows.now.numbers.now rows.now.transitions self.new.heads self.new.nexts }
+        ensures kept { Kept rows.now.numbers.now rows.now.transitions self.old.nexts self.new.nexts }
+        ensures pairs { result ≡ true → pairs_pass rows.now.numbers.now rows.now.transitions ≡ true }
     {
         let mut rise = true;
-        for t in (0..transitions).rev() {
-            let first = usize::from(Row::at(rows, t).first);
+        for t in (0..rows.transitions).rev() {
+            let first = usize::from(rows.row(t).first);
             if first < field::ACTION_LIMIT {
                 let behind = self.heads[first];
-                rise &= goes_before(rows, transitions, t, usize::from(behind));
+                rise &= goes_before(rows, t, usize::from(behind));
                 self.nexts[t] = behind;
                 self.heads[first] = t as u16;
             }
@@ -52,13 +51,13 @@ impl Index {
 }
 
 // Transition t has a lower second action than the one behind it on its chain, if there is one.
-fn goes_before(rows: &[u16], transitions: usize, t: usize, behind: usize) -> bool
-    requires { (6 * t + 6 ≤ length rows.now) × (6 * transitions ≤ length rows.now) }
-    ensures { result ≡ true → behind < transitions → second_or_256 rows.now t < second_or_256 rows.now behind }
+fn goes_before(rows: &Rows, t: usize, behind: usize) -> bool
+    requires { t < rows.now.transitions }
+    ensures { result ≡ true → behind < rows.now.transitions → second_or_256 rows.now.numbers.now t < second_or_256 rows.now.numbers.now behind }
 {
-    if behind < transitions {
-        let second = Row::at(rows, t).second;
-        (second < Row::at(rows, behind).second) & (usize::from(second) < field::ACTION_LIMIT)
+    if behind < rows.transitions {
+        let second = rows.row(t).second;
+        (second < rows.row(behind).second) & (usize::from(second) < field::ACTION_LIMIT)
     } else {
         true
     }
@@ -71,5 +70,8 @@ pub fn index_by_first(rows: &[u16], transitions: usize, index: &mut Index)
     ensures kept { Kept rows.now transitions index.old.nexts index.new.nexts }
 {
     index.heads = [CHAIN_END; field::ACTION_LIMIT];
-    index.link(rows, transitions);
+    index.link(&Rows {
+        numbers: rows,
+        transitions,
+    });
 }

@@ -16,6 +16,7 @@ mod tables;
 pub mod tokens;
 
 pub use chains::{Index, index_by_first};
+use tables::Rows;
 pub use tables::{Lent, Row, number};
 
 /// 01, "Box construction": a transition consumes from its input places and produces into its output places.
@@ -44,7 +45,11 @@ pub fn is_net_with_index(lent: &Lent, index: &mut Index) -> bool
     if !rows::all_fit(lent) {
         return false;
     }
-    pairs::differ(lent.rows, lent.transitions, index)
+    let rows = Rows {
+        numbers: lent.rows,
+        transitions: lent.transitions,
+    };
+    pairs::differ(&rows, index)
 }
 
 /// The same for who needs no index.

@@ -18,7 +18,7 @@ impl<'a> Lent<'a> {
     ghost use Rattle.net.specs.Lent.{tables_lent};
 
     /// No count is over its limit. Only behind this test may counts be multiplied: a lent count can be any number.
-    pub fn counts_fit(&self) -> bool
+    pub(crate) fn counts_fit(&self) -> bool
         ensures { result ≡ counts_fit (tables_lent self.now) }
     {
         (self.places <= field::PLACE_LIMIT)
@@ -73,6 +73,27 @@ impl Row {
             inputs: rows[front + 4],
             outputs: rows[front + 5],
         }
+    }
+}
+
+/// The rows of so many transitions, all of them there.
+#[derive(Clone, Copy)]
+pub(crate) struct Rows<'a> {
+    pub numbers: &'a [u16],
+    pub transitions: usize,
+    ghost few: { transitions ≤ 1024 },
+    ghost reach: { 6 * transitions ≤ length numbers.now },
+}
+
+impl<'a> Rows<'a> {
+    ghost use Rattle.net.specs.Rows.{row_of};
+
+    /// The row of transition t.
+    pub fn row(&self, t: usize) -> Row
+        requires { t < self.now.transitions }
+        ensures { result ≡ row_of self.now.numbers.now t }
+    {
+        Row::at(self.numbers, t)
     }
 }
 

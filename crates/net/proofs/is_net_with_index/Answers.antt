@@ -43,11 +43,11 @@ returns-then-not-all_fit-clause-value c =
       ← c.if-not-all_fit.ensures,
     )
 
-pub differ-requires-clause-transitions_bound : goal.differ-requires-clause-transitions_bound
-differ-requires-clause-transitions_bound c = (
-  (counts_told (tables_lent c.args.lent.now) (c.if-not-counts_fit.ensures)).1,
-  (reach_told (tables_lent c.args.lent.now) (c.if-not-tables_reach.ensures)).1,
-)
+pub invariant_of-rows : goal.invariant_of-rows
+invariant_of-rows c = record {
+  few = (counts_told (tables_lent c.args.lent.now) c.if-not-counts_fit.ensures).1;
+  reach = (reach_told (tables_lent c.args.lent.now) c.if-not-tables_reach.ensures).1;
+}
 
 pub returns-clause-value : goal.returns-clause-value
 returns-clause-value c =

@@ -6,9 +6,9 @@ use Rattle.field.proofs.Tests.{and_parts, true_T}
 use Rattle.net.specs.declared.tables.Row.{Row}
 use Rattle.net.proofs.chains.goes_before.Goals as goal
 
-pub returns-then-behind-transitions : goal.returns-then-behind-transitions
-returns-then-behind-transitions c =
-    λ e h. let here = c.at-second.result.second in
-    let there = c.at.result.second in
+pub returns-then-behind-rows : goal.returns-then-behind-rows
+returns-then-behind-rows c =
+    λ e h. let here = c.row-second.result.second in
+    let there = c.row.result.second in
     let p = and_parts (ltb here there) (ltb c.from.result 256) (true_T _ e) in
-    omega (arith, ap (λ (r : Row). r.second) c.at-second.ensures, ap (λ (r : Row). r.second) c.at.ensures, ltb→lt here there p.0, ltb→lt c.from.result 256 p.1)
+    omega (arith, ap (λ (r : Row). r.second) c.row-second.ensures, ap (λ (r : Row). r.second) c.row.ensures, ltb→lt here there p.0, ltb→lt c.from.result 256 p.1)

@@ -14,10 +14,10 @@ pub loop-t-init : goal.loop-t-init
 loop-t-init c =
     let a = c.args in
     record {
-      stamps = λ j. omega (arith, c.requires.by_index j);
-      stands = rw c.from-t.ensures ((walk_starts a.rows.now a.index.now.nexts a.first a.transitions (omega arith) a.index.now.heads c.requires.chains (omega arith)).1);
+      stamps = λ j. omega (arith, c.requires.earlier j);
+      stands = rw c.from-t.ensures ((walk_starts a.rows.now.numbers.now a.index.now.nexts a.first a.rows.now.transitions (omega arith) a.index.now.heads c.requires.chains (omega arith)).1);
       left = rw c.from-t.ensures
-          (seconds_start a.rows.now a.index.now.nexts a.transitions a.first (omega arith) (a.first + 1) a.stamps.now a.index.now.heads c.requires.chains (omega arith) (λ j. omega (arith, c.requires.by_index j)));
+          (seconds_start a.rows.now.numbers.now a.index.now.nexts a.rows.now.transitions a.first (omega arith) (a.first + 1) a.stamps.now a.index.now.heads c.requires.chains (omega arith) (λ j. omega (arith, c.requires.earlier j)));
     }
 
 pub returns-then-stamps-j : goal.returns-then-stamps-j
@@ -27,16 +27,16 @@ returns-then-stamps-j c =
     let k = c.second-j in
     record {
       value = stops _ _ l.invariant.left
-          (seconds_turn a.rows.now a.index.now.nexts a.transitions a.first (omega arith) (a.first + 1) l.stamps l.t (omega arith) l.invariant.stands k.result k.ensures.0 (omega arith))
+          (seconds_turn a.rows.now.numbers.now a.index.now.nexts a.rows.now.transitions a.first (omega arith) (a.first + 1) l.stamps l.t (omega arith) l.invariant.stands k.result k.ensures.0 (omega arith))
           (ap not (eq-eqb _ _ c.if-stamps-j.true));
-      by_index_2 = l.invariant.stamps;
+      stamped = l.invariant.stamps;
     }
 
 pub loop-t-smaller : goal.loop-t-smaller
 loop-t-smaller c =
     let l = c.loop-t in
     let a = c.args in
-    omega (arith, (walk_goes_on a.rows.now a.index.now.nexts a.first a.transitions (omega arith) l.t (omega arith) l.invariant.stands).1)
+    omega (arith, (walk_goes_on a.rows.now.numbers.now a.index.now.nexts a.first a.rows.now.transitions (omega arith) l.t (omega arith) l.invariant.stands).1)
 
 pub loop-t-preserved : goal.loop-t-preserved
 loop-t-preserved c =
@@ -45,10 +45,10 @@ loop-t-preserved c =
     let k = c.second-j in
     record {
       stamps = stamps_stay (a.first + 1) k.result _ l.stamps (omega arith) l.invariant.stamps;
-      stands = rw c.from-t-in-loop-t.ensures ((walk_goes_on a.rows.now a.index.now.nexts a.first a.transitions (omega arith) l.t (omega arith) l.invariant.stands).2);
+      stands = rw c.from-t-in-loop-t.ensures ((walk_goes_on a.rows.now.numbers.now a.index.now.nexts a.first a.rows.now.transitions (omega arith) l.t (omega arith) l.invariant.stands).2);
       left = rw c.from-t-in-loop-t.ensures
           (goes_on _ _ l.invariant.left
-          (seconds_turn a.rows.now a.index.now.nexts a.transitions a.first (omega arith) (a.first + 1) l.stamps l.t (omega arith) l.invariant.stands k.result k.ensures.0 (omega arith))
+          (seconds_turn a.rows.now.numbers.now a.index.now.nexts a.rows.now.transitions a.first (omega arith) (a.first + 1) l.stamps l.t (omega arith) l.invariant.stands k.result k.ensures.0 (omega arith))
           (ap not (ne_eqb _ _ c.if-stamps-j.false)));
     }
 
@@ -57,6 +57,6 @@ returns c =
     let l = c.loop-t in
     let a = c.args in
     record {
-      value = sym (l.invariant.left ∙ seconds_end a.rows.now a.index.now.nexts a.transitions a.first (omega arith) (a.first + 1) l.stamps l.t c.loop-t-test.false);
-      by_index_2 = l.invariant.stamps;
+      value = sym (l.invariant.left ∙ seconds_end a.rows.now.numbers.now a.index.now.nexts a.rows.now.transitions a.first (omega arith) (a.first + 1) l.stamps l.t c.loop-t-test.false);
+      stamped = l.invariant.stamps;
     }

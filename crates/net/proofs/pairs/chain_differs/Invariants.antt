@@ -10,8 +10,8 @@ use Rattle.net.proofs.pairs.chain_differs.Given as goal
 abbrev pub invariant-loop-t : goal.invariant-loop-t
 invariant-loop-t l = record {
   stamps : (j : ℕ) → get_or l.stamps j 0 ≤ l.first + 1;
-  stands : Stands l.rows l.transitions l.index.nexts l.first l.t;
-  left : seconds_differ l.rows l.transitions l.first ≡ left_to_test (l.first + 1) l.stamps (seconds_ahead l.rows l.transitions l.first l.t);
+  stands : Stands l.rows.numbers.now l.rows.transitions l.index.nexts l.first l.t;
+  left : seconds_differ l.rows.numbers.now l.rows.transitions l.first ≡ left_to_test (l.first + 1) l.stamps (seconds_ahead l.rows.numbers.now l.rows.transitions l.first l.t);
 }
 
 abbrev pub decreases-loop-t : goal.decreases-loop-t

@@ -17,7 +17,7 @@ loop-first-preserved c =
     let l = c.loop-first in
     let r = c.chain_differs in
     record {
-      stamps = r.ensures.by_index_2;
+      stamps = r.ensures.stamped;
       left = goes_on _ _ l.invariant.left (each_turn _ 256 l.first (omega arith)) (sym r.ensures.value ∙ c.if-not-chain_differs.false);
     }
 
@@ -29,4 +29,4 @@ returns-then-not-chain_differs c =
 pub returns : goal.returns
 returns c =
     let l = c.loop-first in
-    sym (l.invariant.left ∙ rest_empty c.args.rows.now c.args.transitions c.chain_count-chains.result l.first c.chain_count-chains.ensures.1 (omega arith) (omega arith))
+    sym (l.invariant.left ∙ rest_empty c.args.rows.now.numbers.now c.args.rows.now.transitions c.chain_count-chains.result l.first c.chain_count-chains.ensures.1 (omega arith) (omega arith))

@@ -7,5 +7,5 @@ use Rattle.net.proofs.pairs.chains_differ.Given as goal
 abbrev pub invariant-loop-first : goal.invariant-loop-first
 invariant-loop-first l = record {
   stamps : (j : ℕ) → get_or l.stamps j 0 ≤ l.first;
-  left : pairs_pass l.rows l.transitions ≡ each (seconds_differ l.rows l.transitions) l.first (256 - l.first);
+  left : pairs_pass l.rows.numbers.now l.rows.transitions ≡ each (seconds_differ l.rows.numbers.now l.rows.transitions) l.first (256 - l.first);
 }

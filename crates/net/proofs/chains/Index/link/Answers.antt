@@ -10,19 +10,19 @@ use Rattle.net.proofs.chains.Index.link.Goals as goal
 
 pub loop-t-init : goal.loop-t-init
 loop-t-init c = record {
-  chains = chains_none c.args.rows.now c.args.transitions c.args.self.now.heads c.args.self.now.nexts c.requires.head_value;
+  chains = chains_none c.args.rows.now.numbers.now c.args.rows.now.transitions c.args.self.now.heads c.args.self.now.nexts c.requires;
   kept = λ u. inl refl;
-  rises = λ e. rises_none c.args.rows.now c.args.transitions;
+  rises = λ e. rises_none c.args.rows.now.numbers.now c.args.rows.now.transitions;
 }
 
 pub loop-t-preserved-then-first-lt-ACTION_LIMIT : goal.loop-t-preserved-then-first-lt-ACTION_LIMIT
 loop-t-preserved-then-first-lt-ACTION_LIMIT c =
     let l = c.loop-t in
-    let rows = c.args.rows.now in
-    let n = c.args.transitions in
+    let rows = c.args.rows.now.numbers.now in
+    let n = c.args.rows.now.transitions in
     let heads = l.self.heads in
     let nexts = l.self.nexts in
-    let is-first = c.from-first.ensures ∙ ap (λ (r : Row). r.first) c.at.ensures in
+    let is-first = c.from-first.ensures ∙ ap (λ (r : Row). r.first) c.row.ensures in
     let down = chains_down rows l.t n heads nexts c.loop-t-test.true l.invariant.chains in
     record {
       chains = chain_on rows (l.t - 1) n (omega arith) (omega arith) heads nexts down _ is-first (omega arith) (omega arith) (omega arith);
@@ -34,9 +34,9 @@ loop-t-preserved-then-first-lt-ACTION_LIMIT c =
 pub loop-t-preserved : goal.loop-t-preserved
 loop-t-preserved c =
     let l = c.loop-t in
-    let rows = c.args.rows.now in
-    let n = c.args.transitions in
-    let is-first = c.from-first.ensures ∙ ap (λ (r : Row). r.first) c.at.ensures in
+    let rows = c.args.rows.now.numbers.now in
+    let n = c.args.rows.now.transitions in
+    let is-first = c.from-first.ensures ∙ ap (λ (r : Row). r.first) c.row.ensures in
     let down = chains_down rows l.t n l.self.heads l.self.nexts c.loop-t-test.true l.invariant.chains in
     record {
       chains = chain_off rows (l.t - 1) n (omega arith) (omega arith) l.self.heads l.self.nexts down (omega (arith, is-first));
@@ -47,10 +47,10 @@ loop-t-preserved c =
 pub returns : goal.returns
 returns c =
     let l = c.loop-t in
-    let rows = c.args.rows.now in
-    let n = c.args.transitions in
+    let rows = c.args.rows.now.numbers.now in
+    let n = c.args.rows.now.transitions in
     record {
       chains = chains_all rows l.t n l.self.heads l.self.nexts c.loop-t-test.false l.invariant.chains;
       kept = l.invariant.kept;
-      transitions_value = λ e. rises_all rows l.t n c.loop-t-test.false (l.invariant.rises e);
+      pairs = λ e. rises_all rows l.t n c.loop-t-test.false (l.invariant.rises e);
     }
