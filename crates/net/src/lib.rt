@@ -33,16 +33,11 @@ pub fn is_net_with_index(lent: &Lent, index: &mut Index) -> bool
     ensures value { result ≡ is_net (tables_lent lent.now) }
     ensures chains { result ≡ true → Chains lent.now.rows.now lent.now.transitions index.new.heads index.new.nexts }
 {
-    if !lent.counts_fit() {
-        return false;
-    }
-    if !lent.tables_reach() {
-        return false;
-    }
-    if !kinds::in_order(&lent.kinds[..lent.places]) {
-        return false;
-    }
-    if !rows::all_fit(lent) {
+    if !lent.counts_fit()
+        || !lent.tables_reach()
+        || !kinds::in_order(&lent.kinds[..lent.places])
+        || !rows::all_fit(lent)
+    {
         return false;
     }
     let rows = Rows {

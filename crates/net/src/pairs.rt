@@ -28,6 +28,7 @@ fn chain_differs(rows: &Rows, index: &Index, first: usize, stamps: &mut [u16; SE
     ensures stamped { (j : ℕ) → get_or stamps.new j 0 ≤ first + 1 }
 {
     let stamp = (first + 1) as u16;
+    // The chain says itself where it goes on, so the walk has no range to go over.
     let mut t = usize::from(index.heads[first]);
     while t < rows.transitions {
         let j = second(rows, t);

@@ -30,10 +30,10 @@ fn list_fits(list: &[u16], places: usize) -> bool
 fn codes_fit(row: Row) -> bool
     ensures { result ≡ codes_pass row.label row.first row.second }
 {
-    let second = usize::from(row.second);
-    (row.label != 128)
-        & ((row.label <= 255)
-            & ((row.first <= 255) & ((second <= 255) | (second == field::NO_SECOND))))
+    row.label != 128
+        && row.label <= 255
+        && row.first <= 255
+        && (row.second <= 255 || usize::from(row.second) == field::NO_SECOND)
 }
 
 // The lists are looked at only where they end within the net's arcs: what lies behind those is not ours.

@@ -2,7 +2,7 @@
 ghost use Rattle.std.specs.Prelude.{◌≡◌, ◌+◌, ◌*◌, ◌<◌, ◌≤◌, length};
 ghost use Rattle.net.specs.inner.Chains.{in_row};
 
-/// Three lent tables with their three counts: 01, "Net tables". They may be no net.
+/// Three lent tables with their three counts: 01, "Net tables". They may be no net. C lends them too, so they are plain numbers.
 #[derive(Clone, Copy)]
 pub struct Lent<'a> {
     pub kinds: &'a [u8],
@@ -17,28 +17,30 @@ impl<'a> Lent<'a> {
     ghost use Rattle.net.specs.Check.{counts_fit, tables_reach};
     ghost use Rattle.net.specs.Lent.{tables_lent};
 
+    #[tactic(auto, unfolding(crate::specs::Check::counts_fit))]
     /// No count is over its limit. Only behind this test may counts be multiplied: a lent count can be any number.
     pub(crate) fn counts_fit(&self) -> bool
         ensures { result ≡ counts_fit (tables_lent self.now) }
     {
-        (self.places <= field::PLACE_LIMIT)
-            & (self.transitions <= field::TRANSITION_LIMIT)
-            & (self.arc_count <= field::ARC_LIMIT)
+        self.places <= field::PLACE_LIMIT
+            && self.transitions <= field::TRANSITION_LIMIT
+            && self.arc_count <= field::ARC_LIMIT
     }
 
+    #[tactic(auto, unfolding(crate::specs::Check::tables_reach))]
     /// Each table holds as much as its count says.
     pub fn tables_reach(&self) -> bool
         requires { self.now.transitions ≤ 1024 }
         ensures { result ≡ tables_reach (tables_lent self.now) }
     {
-        (self.places <= self.kinds.len())
-            & (ROW * self.transitions <= self.rows.len())
-            & (self.arc_count <= self.arcs.len())
+        self.places <= self.kinds.len()
+            && ROW * self.transitions <= self.rows.len()
+            && self.arc_count <= self.arcs.len()
     }
 }
 
-/// How many numbers a row has.
-pub const ROW: usize = 6;
+// How many numbers a row has.
+const ROW: usize = 6;
 
 /// 01, "Net tables": "six 16-bit numbers per transition".
 #[derive(Clone, Copy, Debug, PartialEq, Eq)]

@@ -1,12 +1,11 @@
 -- `chain_differs`: the whole is what is left to test of the second actions that lie ahead of the walk. Assumes nothing.
 use Prim.Native.Nat.{◌+◌}
-use mathlib.Core.Path.{refl, sym, ap, subst⁻¹, ◌∙◌}
+use mathlib.Core.Path.{sym, ap, ◌∙◌}
 use mathlib.Core.Bool.{not}
 use native.Mathlib.Omega.{arith}
 use borrow.Author.Tests.{eq-eqb, ne_eqb}
-use lib.ListN.{get_or}
 use Rattle.net.proofs.Turns.{goes_on, stops}
-use Rattle.net.proofs.Walks.{Stands, ahead, walk_bounded, walk_starts, walk_goes_on}
+use Rattle.net.proofs.Walks.{walk_starts, walk_goes_on}
 use Rattle.net.proofs.Stamps.{seconds_start, seconds_turn, seconds_end, stamps_stay}
 use Rattle.net.proofs.pairs.chain_differs.Goals as goal
 

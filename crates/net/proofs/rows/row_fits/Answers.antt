@@ -1,5 +1,5 @@
 -- `row_fits`: the numbers are those of the row, and the lists are the parts of the arcs that it names. Assumes nothing.
-use mathlib.Core.Path.{◌≡◌, refl, sym, ap, ◌∙◌}
+use mathlib.Core.Path.{refl, sym, ap, ◌∙◌}
 use Rattle.net.specs.declared.tables.Row.{Row}
 use Rattle.net.specs.inner.Passes.{codes_pass}
 use Rattle.net.proofs.Turns.{goes_on, stops}
