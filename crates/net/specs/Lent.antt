@@ -13,5 +13,6 @@ lent kinds rows arcs places transitions arc_count = record {
   arc_count = arc_count;
 }
 
+-- The same of the code's value.
 abbrev pub tables_lent : Lent → Tables
 tables_lent l = lent l.kinds.now l.rows.now l.arcs.now l.places l.transitions l.arc_count
