@@ -2,8 +2,7 @@
 -- True because a chain has only transitions with its own first action.
 use Prim.Native.Nat.{ℕ, zero, suc, ◌+◌, ◌-◌, ◌≤◌, ◌<◌}
 use native.Mathlib.Omega.{arith}
-use native.Mathlib.Decide.{dec_lt}
-use mathlib.Core.Path.{◌≡◌, refl, sym, ap, ap₂, subst, ◌∙◌}
+use mathlib.Core.Path.{◌≡◌, refl, ap, ap₂, ◌∙◌}
 use mathlib.Core.Bool.{Bool, true, ◌&&◌}
 use mathlib.Core.List.{List, [], map}
 use borrow.Author.Tests.{ne_eqb}
@@ -28,11 +27,3 @@ unfolding seconds_differ differ
 rest_empty rows n above first below h l =
     each_all (seconds_differ rows n) first (256 - first)
     (λ j a b. ap (λ ts. differ (map (second_or_256 rows) ts)) (none_with rows j 0 n (λ k q e. omega (arith, below k (omega arith) (omega arith)))))
-
--- One number more that is below.
-pub one_more_below : (f : ℕ → ℕ) (t above r : ℕ) → ((k : ℕ) → k < t → f k < above) → above ≤ r → f t + 1 ≤ r → (k : ℕ) → k < t + 1 → f k < r
-one_more_below f t above r h a b k l = go (dec_lt k t)
-  where
-    go : Dec (k < t) → f k < r
-    go (yes q) = omega (arith, h k q)
-    go (no q) = let e : k ≡ t = omega arith in subst (λ n. f n < r) (sym e) (omega arith)

@@ -20,12 +20,6 @@ ahead rows n i at = with_first rows i at (n - at)
 abbrev pub Stands : List ℕ → ℕ → List ℕ → ℕ → ℕ → Type 0
 Stands rows n next i at = Walk next at (ahead rows n i at)
 
--- Wherever a walk stands, that is a number of 16 bits.
-pub walk_bounded : (next : List ℕ) (at : ℕ) (l : List ℕ) → Walk next at l → at ≤ none
-unfolding Walk
-walk_bounded next at [] w = omega (arith, w)
-walk_bounded next at (t ∷ l) w = omega (arith, w.0, w.1)
-
 module _ (rows next : List ℕ) (i : ℕ) where
   -- A walk of the transitions from t on stands at none before t, and what it visits is what lies ahead of where it stands.
   walk_from : (m t n at : ℕ) → t + m ≡ n → n ≤ none → Walk next at (with_first rows i t m) → (t ≤ at) × (with_first rows i t m ≡ ahead rows n i at)
