@@ -1,6 +1,6 @@
 -- One turn of judging, on plain values, and what is known after the last: whether each node is exclusive, and the first faulty loop.
 -- A node is judged from operands that are judged; what a loop's body was judged to be stays so, since bodies come after their loops.
-use Prim.Native.Nat.{ℕ, zero, suc, ◌+◌, ◌*◌, ◌-◌, ◌≤◌, ◌<◌}
+use Prim.Native.Nat.{ℕ, zero, suc, ◌+◌, ◌*◌, ◌≤◌, ◌<◌}
 use native.Mathlib.Omega.{arith}
 use mathlib.Core.Path.{◌≡◌, refl, sym, ◌∙◌, ap, ap₂, subst}
 use mathlib.Core.List.{List, [], ◌∷◌, ◌++◌, append_assoc, append-nil}
@@ -18,6 +18,7 @@ use Rattle.algebra.specs.Exclusive.{exclusive}
 use Rattle.plan.specs.Loops.{faulty_loops, no_fault, check_loops}
 use Rattle.plan.specs.inner.Nodes.{node_count}
 use Rattle.plan.specs.inner.Table.{Table, Node, tag_at, after_at, Known}
+use Rattle.plan.specs.inner.Judging.{JudgesDown}
 use Rattle.plan.specs.inner.Judged.{fault_told, bit, bits, exclusive_bit, exclusive_by, fault_by, all_values, Judged}
 use Rattle.plan.proofs.Stands.{stands_one}
 use Rattle.plan.proofs.NodeTable.{node_says, sequence_operands, choice_operands, parallel_operands, loop_operands, scope_operand}
@@ -172,7 +173,7 @@ module _ (rows : List ℕ) (k : ℕ) (before after : List ℕ) (here : k < lengt
       }
 
 -- One number written in two ways.
-moved : {rows before after : List ℕ} {k m : ℕ} {rest answer : Answer (Unit {0})} → k ≡ m → Judged rows k before after rest answer → Judged rows m before after rest answer
+pub moved : {rows before after : List ℕ} {k m : ℕ} {rest answer : Answer (Unit {0})} → k ≡ m → Judged rows k before after rest answer → Judged rows m before after rest answer
 moved {rows} {before} {after} {rest = rest} {answer = answer} e j = subst (λ n. Judged rows n before after rest answer) e j
 
 -- The first of two faults.
@@ -180,26 +181,18 @@ first_told : (own later : Option ℕ) → no_fault (fault_told (option_or own la
 first_told None later = refl
 first_told (Some at) later = refl
 
--- The nodes from k on are judged: whatever judges those below k from there judges all below `count`.
-abbrev pub JudgedDown : List ℕ → ℕ → ℕ → List Bool → List Bool → Option ℕ → Type 0
-JudgedDown rows count k entry exit first =
-    (after : List ℕ) (answer : Answer (Unit {0})) → Judged rows k (bits exit) after (no_fault (fault_told first)) answer → Judged rows count (bits entry) after (good tt) answer
-
--- One more node.
-pub turn : (rows : List ℕ) (count k : ℕ) (entry bs : List Bool) (later own : Option ℕ) (b : Bool) → 0 < k → k ≤ length bs
-    → bit b ≡ exclusive_by rows (bits bs) (k - 1) → fault_told own ≡ fault_by rows (bits (set bs (k - 1) b)) (k - 1)
-    → JudgedDown rows count k entry bs later → JudgedDown rows count (k - 1) entry (set bs (k - 1) b) (option_or own later)
-turn rows count k entry bs later own b some fits e f down after answer j =
-    let m : ℕ = k - 1 in
-    let back : k - 1 + 1 ≡ k = omega arith in
-    let here : k - 1 < length (bits bs) = omega (arith, length-map bs bit) in
-    let s : bits (set bs (k - 1) b) ≡ set (bits bs) (k - 1) (exclusive_by rows (bits bs) (k - 1)) = map-set bit bs (k - 1) b ∙ ap (λ v. set (bits bs) (k - 1) v) e in
-    let q : no_fault (fault_told (option_or own later)) ≡ (no_fault (fault_by rows (set (bits bs) (k - 1) (exclusive_by rows (bits bs) (k - 1))) (k - 1)) >> no_fault (fault_told later)) =
-    first_told own later ∙ ap (λ l. no_fault l >> no_fault (fault_told later)) (f ∙ ap (λ t. fault_by rows t (k - 1)) s) in
-    let i : Judged rows (k - 1) (set (bits bs) (k - 1) (exclusive_by rows (bits bs) (k - 1))) after (no_fault (fault_told (option_or own later))) answer =
-    subst (λ t. Judged rows (k - 1) t after (no_fault (fault_told (option_or own later))) answer) s j in
-    down after answer
-    (moved back (one_more rows (k - 1) (bits bs) after here (subst (λ a. Judged rows (k - 1) (set (bits bs) (k - 1) (exclusive_by rows (bits bs) (k - 1))) after a answer) q i)))
+-- The same of what the code answers.
+pub turn : (rows after : List ℕ) (k : ℕ) (bs : List Bool) (later own : Option ℕ) (b : Bool) (answer : Answer (Unit {0})) → k < length bs
+    → bit b ≡ exclusive_by rows (bits bs) k → fault_told own ≡ fault_by rows (bits (set bs k b)) k
+    → Judged rows k (bits (set bs k b)) after (no_fault (fault_told (option_or own later))) answer → Judged rows (k + 1) (bits bs) after (no_fault (fault_told later)) answer
+turn rows after k bs later own b answer fits e f j =
+    let here : k < length (bits bs) = omega (arith, length-map bs bit) in
+    let s : bits (set bs k b) ≡ set (bits bs) k (exclusive_by rows (bits bs) k) = map-set bit bs k b ∙ ap (λ v. set (bits bs) k v) e in
+    let q : no_fault (fault_told (option_or own later)) ≡ (no_fault (fault_by rows (set (bits bs) k (exclusive_by rows (bits bs) k)) k) >> no_fault (fault_told later)) =
+    first_told own later ∙ ap (λ l. no_fault l >> no_fault (fault_told later)) (f ∙ ap (λ t. fault_by rows t k) s) in
+    let i : Judged rows k (set (bits bs) k (exclusive_by rows (bits bs) k)) after (no_fault (fault_told (option_or own later))) answer =
+    subst (λ t. Judged rows k t after (no_fault (fault_told (option_or own later))) answer) s j in
+    one_more rows k (bits bs) after here (subst (λ a. Judged rows k (set (bits bs) k (exclusive_by rows (bits bs) k)) after a answer) q i)
 
 -- A loop's body comes after it.
 loops_ordered : (rows : List ℕ) (count k i at : ℕ) (E : Expr) → Node rows count k i at E → tag_at rows k ≡ 5 → k < after_at rows (k + 1)
@@ -222,6 +215,6 @@ all_judged {rows} {before} {after} {count} j E t =
     ∙ ap (λ m. no_fault (all_values (fault_by rows after) 0 m)) t.nodes
     ∙ ap no_fault (faults_right rows count after known _ E n).same
 
-pub check_answered : (rows : List ℕ) (count k : ℕ) (entry exit : List Bool) (first : Option ℕ) → JudgedDown rows count k entry exit first → k ≤ 0
+pub check_answered : (rows : List ℕ) (count : ℕ) (entry exit : List Bool) (first : Option ℕ) → JudgesDown rows 0 count entry exit None first
     → (E : Expr) → Table rows count E → no_fault (fault_told first) ≡ check_loops E
-check_answered rows count k entry exit first down h = all_judged (down _ _ (none_left rows (bits exit) (no_fault (fault_told first)) (omega arith)))
+check_answered rows count entry exit first down = all_judged (down _ _ (none_left rows (bits exit) (no_fault (fault_told first)) refl))

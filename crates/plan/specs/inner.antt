@@ -1,5 +1,6 @@
 pub mod Nodes
 pub mod Judged
+pub mod Judging
 pub mod Table
 pub mod Numbers
 pub mod Fields

@@ -7,6 +7,7 @@ ghost use Rattle.plan.specs.Loops.{check_loops};
 ghost use Rattle.plan.specs.inner.Table.{Table};
 ghost use Rattle.plan.specs.inner.Numbers.{table_numbers};
 ghost use Rattle.plan.specs.inner.Judged.{bit, bits, exclusive_by, fault_by, fault_told};
+ghost use Rattle.plan.specs.inner.Judging.{JudgesDown};
 
 use crate::table::{Row, Tag, after};
 use field::{Fault, Refusal};
@@ -58,17 +59,50 @@ fn fault_of(rows: &[Row], k: usize, exclusive: &[bool]) -> Option<usize>
     }
 }
 
+/// Judges node k. Answers the offset of the first faulty loop from k on, where `later` is that behind it.
+fn judge_node(rows: &[Row], k: usize, exclusive: &mut [bool], later: Option<usize>) -> Option<usize>
+    requires { (k < length rows.now) × (length rows.now ≤ 1366) × (k < length exclusive.old) }
+    ensures { JudgesDown (table_numbers rows.now) k (k + 1) exclusive.old exclusive.new later result }
+{
+    exclusive[k] = is_exclusive(rows, k, exclusive);
+    fault_of(rows, k, exclusive).or(later)
+}
+
+/// Judges four nodes from k on, the last first.
+fn judge_four(rows: &[Row], k: usize, exclusive: &mut [bool], later: Option<usize>) -> Option<usize>
+    requires { (k + 4 ≤ length rows.now) × (length rows.now ≤ 1366) × (k + 4 ≤ length exclusive.old) }
+    ensures { JudgesDown (table_numbers rows.now) k (k + 4) exclusive.old exclusive.new later result }
+{
+    let fourth = judge_node(rows, k + 3, exclusive, later);
+    let third = judge_node(rows, k + 2, exclusive, fourth);
+    let second = judge_node(rows, k + 1, exclusive, third);
+    judge_node(rows, k, exclusive, second)
+}
+
+/// Judges the nodes below `high`, the node number falling. Answers the offset of the first faulty loop, where `later` is that from `high` on.
+// 01 names recursion over the node table here. Four nodes to a call while there are as many: a call costs more than a node, and calls
+// stay few inside each other.
+fn judge(rows: &[Row], high: usize, exclusive: &mut [bool], later: Option<usize>) -> Option<usize>
+    requires { (high ≤ length rows.now) × (length rows.now ≤ 1366) × (high ≤ length exclusive.old) }
+    ensures { JudgesDown (table_numbers rows.now) 0 high exclusive.old exclusive.new later result }
+{
+    if high == 0 {
+        return later;
+    }
+    if high < 4 {
+        let found = judge_node(rows, high - 1, exclusive, later);
+        return judge(rows, high - 1, exclusive, found);
+    }
+    let found = judge_four(rows, high - 4, exclusive, later);
+    judge(rows, high - 4, exclusive, found)
+}
+
 /// The check for loops with room for as many nodes.
-fn judge(rows: &[Row], exclusive: &mut [bool]) -> Result<(), Refusal>
+fn check_in(rows: &[Row], exclusive: &mut [bool]) -> Result<(), Refusal>
     requires { (length rows.now ≤ 1366) × (length rows.now ≤ length exclusive.old) }
     ensures { (E : Expr) → Table (table_numbers rows.now) (length rows.now) E → says (λ u. tt) result ≡ check_loops E }
 {
-    let mut first = None;
-    for k in (0..rows.len()).rev() {
-        exclusive[k] = is_exclusive(rows, k, exclusive);
-        first = fault_of(rows, k, exclusive).or(first);
-    }
-    match first {
+    match judge(rows, rows.len(), exclusive, None) {
         Some(at) => Err(Fault::BodyNotExclusive.at(at)),
         None => Ok(()),
     }
@@ -80,8 +114,8 @@ pub fn check_loops(rows: &[Row]) -> Result<(), Refusal>
     ensures { (E : Expr) → Table (table_numbers rows.now) (length rows.now) E → says (λ u. tt) result ≡ check_loops E }
 {
     if rows.len() <= FEW_NODES {
-        judge(rows, &mut [false; FEW_NODES])
+        check_in(rows, &mut [false; FEW_NODES])
     } else {
-        judge(rows, &mut [false; crate::NODES])
+        check_in(rows, &mut [false; crate::NODES])
     }
 }

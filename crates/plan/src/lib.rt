@@ -184,7 +184,7 @@ fn read_field(
                 byte: u16::from(byte),
                 members,
                 after: read.nodes as u16,
-                first: so_far.actions as u16,
+                first: before.actions as u16,
                 at: at as u16,
             };
             Ok(FieldRead {

@@ -11,18 +11,18 @@ returns-then-len-ne1-clause-is c =
 pub returns-then-label-clause-is : goal.returns-then-label-clause-is
 returns-then-label-clause-is c =
     let a = c.args in
-    λ at read. action_wrong_label a.s.now at a.len a.actions c.requires read c.if-len-ne1.false c.if-label.true
+    λ at read. action_wrong_label a.s.now at a.len a.actions c.requires read c.if-len-ne1.false (omega arith)
 
 pub returns-then-actions-ge-ACTION_LIMIT-clause-is : goal.returns-then-actions-ge-ACTION_LIMIT-clause-is
 returns-then-actions-ge-ACTION_LIMIT-clause-is c =
     let a = c.args in
     λ at read.
     action_beyond_limit a.s.now at a.len a.actions c.requires read c.if-len-ne1.false c.if-label.false (omega (arith, c.type_inv.s 3))
-    c.if-actions-ge-ACTION_LIMIT.true
+    (omega arith)
 
 pub returns-clause-is : goal.returns-clause-is
 returns-clause-is c =
     let a = c.args in
     λ at read.
     action_read a.s.now at a.len a.actions c.requires read c.if-len-ne1.false c.if-label.false (omega (arith, c.type_inv.s 3))
-    c.if-actions-ge-ACTION_LIMIT.false
+    (omega arith)

@@ -1,4 +1,5 @@
 -- `plan::look_scope` meets its contract: each way out is a law of `Heads`. Assumes nothing.
+use Rattle.std.proofs.Common.{arith}
 use Rattle.plan.proofs.Heads.{scope_wrong_body, scope_zero, scope_high, scope_read}
 use Rattle.plan.proofs.look_scope.Goals as goal
 use Rattle.plan.proofs.look_scope.Goals.{then-name-eq0-via-then-name-eq0, then-name-eq0-via-else-name-eq0+then-name-gt127}
@@ -14,10 +15,10 @@ returns-then-name-eq0-clause-is c =
     λ at.
     elim c.then-name-eq0.branch [
       | then-name-eq0-via-then-name-eq0 w ↦ scope_zero a.s.now at a.len a.actions c.requires c.if-len-eq0.false w.if-name-eq0.true
-      | then-name-eq0-via-else-name-eq0+then-name-gt127 w ↦ scope_high a.s.now at a.len a.actions c.requires c.if-len-eq0.false w.if-name-gt127.true
+      | then-name-eq0-via-else-name-eq0+then-name-gt127 w ↦ scope_high a.s.now at a.len a.actions c.requires c.if-len-eq0.false (omega arith)
     ]
 
 pub returns-clause-is : goal.returns-clause-is
 returns-clause-is c =
     let a = c.args in
-    λ at. scope_read a.s.now at a.len a.actions c.requires c.if-len-eq0.false c.if-name-eq0.false c.if-name-gt127.false
+    λ at. scope_read a.s.now at a.len a.actions c.requires c.if-len-eq0.false c.if-name-eq0.false (omega arith)
