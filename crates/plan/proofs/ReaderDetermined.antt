@@ -29,6 +29,7 @@ use Rattle.plan.specs.inner.Numbers.{table_numbers}
 use Rattle.plan.specs.inner.Says.{sizes_told, RowsAre}
 use Rattle.plan.specs.declared.Sizes as code
 use Rattle.plan.specs.declared.table.Row as table
+use Rattle.plan.proofs.Reasons.{plan_reasoned}
 use Rattle.plan.proofs.read_plan_in.Kinds as kinds
 use Rattle.plan.proofs.read_plan_in.Reads as reads
 
@@ -144,6 +145,13 @@ abbrev sizes : Answer Expr → Answer Sizes
 sizes a = a >>= λ E. good (sizes_of E)
 
 module _ (κs : Lfts 2) (a : Dens κs kinds.ps) where
+  -- The results that are allowed are those with one refusal, which has this number and carries this.
+  pub record OneRefusal (n c : ℕ) : Type 0 where
+    pub refusal : Refusal
+    pub number : number_of refusal.fault ≡ n
+    pub carried : refusal.carried ≡ c
+    pub all : (x : Result 2 kinds.ps kinds.r κs a) → Allowed 2 kinds.ps kinds.r reads.Post κs a x ↔ (x.0 ≡ Err refusal)
+
   abbrev Allows : Result 2 kinds.ps kinds.r κs a → Type 0
   Allows = Allowed 2 kinds.ps kinds.r reads.Post κs a
 
@@ -161,18 +169,26 @@ module _ (κs : Lfts 2) (a : Dens κs kinds.ps) where
             λ i. (r i, (tt, (k i, tt)));
       }
 
-  any_rows : (n c : ℕ) → read_plan a.0.now ≡ refused n c → (x : Result 2 kinds.ps kinds.r κs a) → Allows x ↔ (says sizes_told x.0 ≡ refused n c)
-  any_rows n c e x = (
-    λ p. p.0 ∙ ap sizes e,
-    λ p. (p ∙ sym (ap sizes e), rw e tt),
-  )
+  -- the refusal of a plan, and that each result with it is allowed
+  any_rows : (n c : ℕ) → read_plan a.0.now ≡ refused n c → OneRefusal n c
+  any_rows n c e =
+      let (fault, f) = plan_reasoned a.0.now n c e in
+      let told : ◌≡◌ {A = Answer Sizes} (refused (number_of fault) c) (refused n c) = ap (λ (m : ℕ). refused m c) f in
+      record {
+        refusal = record { fault = fault; carried = c };
+        number = f;
+        carried = refl;
+        all = λ x. (
+          λ p. read_once x.0 (Err (record { fault = fault; carried = c })) (p.0 ∙ ap sizes e ∙ sym told),
+          λ p. (ap (says sizes_told) p ∙ told ∙ sym (ap sizes e), rw e tt),
+        );
+      }
 
 pub record ReaderDetermined : Type 0 where
   -- Of a plan that is read: one answer, and one content of the rows.
   pub read : (κs : Lfts 2) (a : Dens κs kinds.ps) (E : Expr) → read_plan a.0.now ≡ good E → One (Allowed 2 kinds.ps kinds.r reads.Post κs a)
   -- Of a plan that is refused: that refusal, with whatever is left in the rows.
-  pub refusals : (κs : Lfts 2) (a : Dens κs kinds.ps) (n c : ℕ) → read_plan a.0.now ≡ refused n c
-      → (x : Result 2 kinds.ps kinds.r κs a) → Allowed 2 kinds.ps kinds.r reads.Post κs a x ↔ (says sizes_told x.0 ≡ refused n c)
+  pub refusals : (κs : Lfts 2) (a : Dens κs kinds.ps) (n c : ℕ) → read_plan a.0.now ≡ refused n c → OneRefusal κs a n c
 
 pub reader_determined : ReaderDetermined
 reader_determined = record { read = one_read; refusals = any_rows }
