@@ -135,64 +135,44 @@ fn read_field(
     if levels == 0 {
         return Err(Fault::TooDeep.at(at));
     }
-    let node = so_far.nodes;
-    match look(s, so_far.actions) {
-        Err(fault) => Err(fault.at(at)),
-        Ok(Head::Action(label)) => {
-            rows[node] = Row {
-                tag: Tag::Action as u16,
-                byte: u16::from(label),
-                members: 0,
-                after: node as u16 + 1,
-                first: so_far.actions as u16,
-                at: at as u16,
-            };
-            let read = Sizes {
-                nodes: node + 1,
+    let head = match look(s, so_far.actions) {
+        Ok(head) => head,
+        Err(fault) => return Err(fault.at(at)),
+    };
+    let below = Sizes {
+        nodes: so_far.nodes + 1,
+        actions: so_far.actions,
+    };
+    let (tag, byte, members, used, read) = match head {
+        Head::Action(label) => {
+            let with_it = Sizes {
+                nodes: below.nodes,
                 actions: so_far.actions + 1,
             };
-            Ok(FieldRead {
-                used: 4,
-                so_far: read,
-            })
+            (Tag::Action, label, 0, 4, with_it)
         }
-        Ok(
-            Head::Operator {
-                tag,
-                byte,
-                members,
-                start,
-                len,
-            },
-        ) => {
+        Head::Operator {
+            tag,
+            byte,
+            members,
+            start,
+            len,
+        } => {
             let end = start + len;
-            let before = Sizes {
-                nodes: node + 1,
-                actions: so_far.actions,
-            };
-            let read = read_operands(
-                &s[start..end],
-                at + start,
-                levels - 1,
-                before,
-                members,
-                rows,
-            )?;
-            // Only now is the node after the subtree known.
-            rows[node] = Row {
-                tag: tag as u16,
-                byte: u16::from(byte),
-                members,
-                after: read.nodes as u16,
-                first: before.actions as u16,
-                at: at as u16,
-            };
-            Ok(FieldRead {
-                used: end,
-                so_far: read,
-            })
+            let read = read_operands(&s[start..end], at + start, levels - 1, below, members, rows)?;
+            (tag, byte, members, end, read)
         }
-    }
+    };
+    // Only now is the node after the subtree known.
+    rows[so_far.nodes] = Row {
+        tag: tag as u16,
+        byte: u16::from(byte),
+        members,
+        after: read.nodes as u16,
+        first: so_far.actions as u16,
+        at: at as u16,
+    };
+    Ok(FieldRead { used, so_far: read })
 }
 
 /// So many operands, and no byte after the last. `s` is what is left of the enclosing body: nothing else can be read from here. A loop, since

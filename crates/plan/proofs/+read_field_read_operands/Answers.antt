@@ -8,6 +8,7 @@ use Rattle.plan.specs.inner.Fields.{HeadFits}
 use Rattle.plan.proofs.Readers.{field_too_deep, field_refused, field_action, field_operands_refused, field_operator, left_over, all_read, one_missing, one_refused, one_read, none_read}
 use Rattle.plan.proofs.Stores.{row_stored, tag_stored}
 use Rattle.plan.proofs.+read_field_read_operands.Goals as goal
+use Rattle.plan.proofs.+read_field_read_operands.Goals.{read_field-in-Action, read_field-in-Operator+in_ok-read-in-Operator}
 
 -- the ways out of read_field
 
@@ -22,37 +23,39 @@ read_field-returns-in-Err-clause-is t c =
     field_refused a.levels a.s.now a.at a.so_far.actions a.so_far.nodes _ _ c.look.result c.if-levels-eq0.false (c.look.ensures.is a.at)
     _ c.in-Err.fault c.in-Err.is (ap number_of c.at-in-Err.ensures.0, c.at-in-Err.ensures.1)
 
-pub read_field-returns-in-Ok-Action-clause-is : goal.read_field-returns-in-Ok-Action-clause-is
-read_field-returns-in-Ok-Action-clause-is t c =
-    let a = c.args in
-    let g = c.in-Ok-Action in
-    let fits : HeadFits (Ok (Action g.label)) (length a.s.now) a.so_far.actions = rw g.field-0-is at g.ensures.fits in
-    let room : a.so_far.nodes < length a.rows.now = omega (arith, c.requires.in_rows) in
-    rw c.from.ensures
-    (field_action a.levels a.s.now a.at a.so_far.actions a.so_far.nodes _ _ c.look.result c.if-levels-eq0.false (c.look.ensures.is a.at)
-    g.label (g.is ∙ ap Ok g.field-0-is) (row_stored a.rows.now a.so_far.nodes _ room))
-
-pub read_field-returns-in_err-read-in-Ok-Operator-clause-is : goal.read_field-returns-in_err-read-in-Ok-Operator-clause-is
-read_field-returns-in_err-read-in-Ok-Operator-clause-is t c =
+pub read_field-returns-in_err-read-in-Operator-clause-is : goal.read_field-returns-in_err-read-in-Operator-clause-is
+read_field-returns-in_err-read-in-Operator-clause-is t c =
     let a = c.args in
     let o = c.read_operands in
-    let g = c.in-Ok-Operator in
+    let g = c.in-Operator in
     let p = err_from_is_err_and c.from_residual.result c.from_residual.ensures.1 in
     rw (p.1, p.2)
     (field_operands_refused a.levels a.s.now a.at a.so_far.actions a.so_far.nodes _ _ c.look.result c.if-levels-eq0.false (c.look.ensures.is a.at)
-    g.tag g.byte g.members g.start g.len (g.is ∙ ap Ok g.field-0-is) o.result o.ensures.are _ c.in_err-read-in-Ok-Operator.was)
+    g.tag g.byte g.members g.start g.len (c.in-Ok.is ∙ ap Ok g.is) o.result o.ensures.are _ c.in_err-read-in-Operator.was)
 
-pub read_field-returns-in_ok-read-in-Ok-Operator-clause-is : goal.read_field-returns-in_ok-read-in-Ok-Operator-clause-is
-read_field-returns-in_ok-read-in-Ok-Operator-clause-is t c =
+pub read_field-returns-clause-is : goal.read_field-returns-clause-is
+read_field-returns-clause-is t c =
     let a = c.args in
-    let o = c.read_operands in
-    let g = c.in-Ok-Operator in
-    let n = c.in_ok-read-in-Ok-Operator in
-    let fits : HeadFits (Ok (Operator g.tag g.byte g.members g.start g.len)) (length a.s.now) a.so_far.actions = rw g.field-0-is at g.ensures.fits in
-    let room : a.so_far.nodes < length o.new.rows = omega (arith, c.requires.in_rows, o.auto.rows) in
-    rw (c.from-in-Ok-Operator.ensures, tag_stored g.tag)
-    (field_operator a.levels a.s.now a.at a.so_far.actions a.so_far.nodes _ _ c.look.result c.if-levels-eq0.false (c.look.ensures.is a.at)
-    g.tag g.byte g.members g.start g.len (g.is ∙ ap Ok g.field-0-is) o.result o.ensures.are n.read _ n.was (row_stored o.new.rows a.so_far.nodes _ room))
+    elim c.match-head.branch [
+      | read_field-in-Action w ↦
+          let g = w.in-Action in
+          let e : c.look.result ≡ Ok (Action g.label) = c.in-Ok.is ∙ ap Ok g.is in
+          let fits : HeadFits (Ok (Action g.label)) (length a.s.now) a.so_far.actions = rw e at c.look.ensures.fits in
+          let room : a.so_far.nodes < length a.rows.now = omega (arith, c.requires.in_rows) in
+          rw (c.from.ensures, w.rows-is, w.tag-is)
+          (field_action a.levels a.s.now a.at a.so_far.actions a.so_far.nodes _ _ c.look.result c.if-levels-eq0.false (c.look.ensures.is a.at)
+          g.label e (row_stored a.rows.now a.so_far.nodes _ room))
+      | read_field-in-Operator+in_ok-read-in-Operator w ↦
+          let o = w.read_operands in
+          let g = w.in-Operator in
+          let n = w.in_ok-read-in-Operator in
+          let e : c.look.result ≡ Ok (Operator g.tag g.byte g.members g.start g.len) = c.in-Ok.is ∙ ap Ok g.is in
+          let fits : HeadFits (Ok (Operator g.tag g.byte g.members g.start g.len)) (length a.s.now) a.so_far.actions = rw e at c.look.ensures.fits in
+          let room : a.so_far.nodes < length o.new.rows = omega (arith, c.requires.in_rows, o.auto.rows) in
+          rw (c.from.ensures, w.rows-is, w.tag-is, tag_stored g.tag)
+          (field_operator a.levels a.s.now a.at a.so_far.actions a.so_far.nodes _ _ c.look.result c.if-levels-eq0.false (c.look.ensures.is a.at)
+          g.tag g.byte g.members g.start g.len e o.result o.ensures.are n.read _ n.was (row_stored o.new.rows a.so_far.nodes _ room))
+    ]
 
 -- the ways out of read_operands, and a turn of its loop
 
