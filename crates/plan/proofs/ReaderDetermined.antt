@@ -1,7 +1,7 @@
 -- What the contract of the reader, `read_plan_in`, determines at every input: its answer, and of a plan that is read every number of the rows. Of a plan that is refused
 -- it says nothing of the rows, which are the library's own work room: the results that it allows are then that refusal with any rows.
 -- True because what an answer says tells the answer: each case of the enum has its own case of what is said, with all its numbers.
-use Prim.Native.Nat.{ℕ, zero, suc, ◌+◌, ◌*◌}
+use Prim.Native.Nat.{ℕ, zero, suc, ◌*◌}
 use mathlib.Core.Path.{◌≡◌, refl, sym, ap, ◌∙◌}
 use mathlib.Core.Logic.{◌↔◌}
 use mathlib.Core.List.{List, [], ◌∷◌, ◌++◌, map}

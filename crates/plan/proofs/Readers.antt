@@ -1,7 +1,7 @@
 -- Each way out of the readers of a field and of operands gives what the definition says, and has stored the rows of the nodes that were read.
 -- True because the readers go by the definition's cases, and each operand's rows follow those of the one before it.
 use Prim.Native.Nat.{ℕ, zero, suc, ◌+◌, ◌*◌, ◌-◌, ◌≤◌, ◌<◌}
-use mathlib.Core.Path.{◌≡◌, refl, sym, ap, ◌∙◌}
+use mathlib.Core.Path.{◌≡◌, refl, ap, ◌∙◌}
 use mathlib.Core.List.{List, [], ◌∷◌}
 use native.Mathlib.Omega.{arith}
 use native.Mathlib.Nat.{add-zero, add_assoc, add-sub_cancel_left}
@@ -198,9 +198,6 @@ pub record Left (d k : ℕ) (s : List ℕ) (at n node : ℕ) (t t' : List ℕ) (
   pub rest : (r : Result Sizes Refusal) (t'' : List ℕ)
       → OperandsAre due (read_operands (read_field d) due (drop from s) (at + from) read.actions) r read.nodes read.actions (at + from) t' t''
       → OperandsAre k (read_operands (read_field d) k s at n) r node n at t t''
-
-pub none_read : (d k : ℕ) (s : List ℕ) (at : ℕ) (so_far : Sizes) (t : List ℕ) → so_far.actions ≤ action_limit → Left d k s at so_far.actions so_far.nodes t t k 0 so_far
-none_read d k s at so_far t h = record { inside = omega arith; numbered = omega arith; counted = h; rest = λ r t'' o. rw add-zero at o }
 
 module _ {d k : ℕ} {s : List ℕ} {at n node : ℕ} {t t' : List ℕ} {due from : ℕ} {read : Sizes} (l : Left d k s at n node t t' due from read) where
   -- what a reader of one field is handed

@@ -1,7 +1,7 @@
 -- Every refusal of a plan has one of the code's reasons.
 -- True because each test of the definition gives its own, and what comes after a passed test has its own tests.
 use Prim.Native.Nat.{ℕ, zero, suc, ◌+◌, ◌-◌}
-use mathlib.Core.Path.{◌≡◌, refl, sym, ap, ◌∙◌}
+use mathlib.Core.Path.{◌≡◌, refl}
 use mathlib.Core.List.{List, [], ◌∷◌}
 use mathlib.Core.Bool.{Bool, true, false, cond}
 use mathlib.Core.Logic.{◌⊎◌, inl, inr}
@@ -9,14 +9,13 @@ use lib.ListN.{length, get_or, drop}
 use lib.Dec.{eqb, leb, ltb}
 use Rattle.field.specs.Limits.{plan_limit, depth_limit, action_limit}
 use Rattle.field.specs.Answer.{Answer, good, refused, ◌>>=◌, check}
-use Rattle.field.specs.Refusals.{plan_too_long, field_cut, wrong_body, wrong_label, too_many_actions, bytes_after, operand_due, too_deep, unknown_tag}
+use Rattle.field.specs.Refusals.{plan_too_long, field_cut, wrong_body, wrong_label, too_many_actions, unknown_tag}
 use Rattle.field.specs.Field.{tag_of, length_of, body_of}
 use Rattle.field.specs.Says.{number_of}
 use Rattle.field.specs.declared.Fault.{Fault}
 use Rattle.field.specs.declared.Fault.TheVariants.{PlanTooLong, OperandDue, TooDeep, FieldCut, UnknownTag, WrongBody, WrongLabel, TooManyActions, BytesAfter}
 use Rattle.field.proofs.Answers.{good_not_refused, bind_refused, check_refused, refused_number}
-use Rattle.algebra.specs.Expr.{Expr}
-use Rattle.plan.specs.Reading.{is_label, is_name, Tag, action_tag, sequence_tag, choice_tag, parallel_tag, loop_tag, scope_tag, tag_spelt, Part, Parts, Reader, read_operands, read_body, read_field, read_plan}
+use Rattle.plan.specs.Reading.{is_label, is_name, Tag, action_tag, sequence_tag, choice_tag, parallel_tag, loop_tag, scope_tag, tag_spelt, Reader, read_operands, read_body, read_field, read_plan}
 
 abbrev pub Reason : ℕ → Type 0
 Reason n = (fault : Fault) × (number_of fault ≡ n)

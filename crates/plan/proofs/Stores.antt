@@ -14,7 +14,7 @@ use Rattle.plan.specs.contracts.table.Tag.{the_type}
 use Rattle.plan.specs.declared.table.Tag.{Tag}
 use Rattle.plan.specs.declared.table.Tag.TheVariants.{Action, Sequence, Choice, Parallel, Loop, Scope}
 use Rattle.plan.specs.declared.table.Row as code
-use Rattle.plan.specs.inner.Nodes.{Row, row, numbers, node_count, nodes}
+use Rattle.plan.specs.inner.Nodes.{Row, numbers, node_count, nodes}
 use Rattle.plan.specs.inner.Numbers.{tag_number, row_numbers, table_numbers}
 use Rattle.plan.proofs.Rows.{numbers_append, numbers_length, nodes_length}
 

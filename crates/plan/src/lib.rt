@@ -68,10 +68,10 @@ fn look_action(s: &[u8], len: usize, actions: usize) -> Result<Head, Fault>
 }
 
 /// A scope's own tests: its body begins with a byte, and the byte is a name.
-fn look_scope(s: &[u8], len: usize, actions: usize) -> Result<Head, Fault>
+fn look_scope(s: &[u8], len: usize) -> Result<Head, Fault>
     requires { Inside s.now len }
-    ensures fits { HeadFits result (length s.now) actions }
-    ensures is { (at : ℕ) → HeadIs result s.now at actions (λ read. read_body read scope_tag (body_of s.now) at (3 + length_of s.now) actions) }
+    ensures fits { (actions : ℕ) → HeadFits result (length s.now) actions }
+    ensures is { (at actions : ℕ) → HeadIs result s.now at actions (λ read. read_body read scope_tag (body_of s.now) at (3 + length_of s.now) actions) }
 {
     if len == 0 {
         return Err(Fault::WrongBody);
@@ -105,7 +105,7 @@ fn look(s: &[u8], actions: usize) -> Result<Head, Fault>
     }
     let members = match tag {
         Tag::Action => return look_action(s, len, actions),
-        Tag::Scope => return look_scope(s, len, actions),
+        Tag::Scope => return look_scope(s, len),
         Tag::Sequence | Tag::Choice | Tag::Parallel => 2,
         Tag::Loop => 3,
     };
@@ -145,11 +145,11 @@ fn read_field(
     };
     let (tag, byte, members, used, read) = match head {
         Head::Action(label) => {
-            let with_it = Sizes {
+            let read = Sizes {
                 nodes: below.nodes,
                 actions: so_far.actions + 1,
             };
-            (Tag::Action, label, 0, 4, with_it)
+            (Tag::Action, label, 0, 4, read)
         }
         Head::Operator {
             tag,

@@ -1,11 +1,11 @@
 -- The proof of the cycle of calls {read_field, read_operands}: each return and each turn of the loop is a law of `Readers`, at what the callees answer.
 -- Assumes nothing.
-use Rattle.std.proofs.Common.{◌≡◌, ◌+◌, ◌<◌, ◌≤◌, ◌-◌, length, arith, ap, ap₂, ◌∙◌, subst, Ok}
+use Rattle.std.proofs.Common.{◌≡◌, ◌+◌, ◌<◌, ◌-◌, length, arith, ap, ◌∙◌, Ok}
 use Rattle.std.proofs.lemmas.Result.{err_from_is_err_and}
 use Rattle.field.specs.Says.{number_of}
 use Rattle.plan.specs.declared.Head.TheVariants.{Action, Operator}
 use Rattle.plan.specs.inner.Fields.{HeadFits}
-use Rattle.plan.proofs.Readers.{field_too_deep, field_refused, field_action, field_operands_refused, field_operator, left_over, all_read, one_missing, one_refused, one_read, none_read}
+use Rattle.plan.proofs.Readers.{field_too_deep, field_refused, field_action, field_operands_refused, field_operator, left_over, all_read, one_missing, one_refused, one_read}
 use Rattle.plan.proofs.Stores.{row_stored, tag_stored}
 use Rattle.plan.proofs.+read_field_read_operands.Goals as goal
 use Rattle.plan.proofs.+read_field_read_operands.Goals.{read_field-in-Action, read_field-in-Operator+in_ok-read-in-Operator}

@@ -32,7 +32,7 @@ pub returns-in-Scope-clause-is : goal.returns-in-Scope-clause-is
 returns-in-Scope-clause-is c =
     λ at.
     body_head c.args.s.now at c.args.actions c.if-s-lt3.false (omega (arith, c.from-len.ensures, c.from_be_bytes.ensures))
-    (c.try_from.ensures ∙ ap spelt c.from.ensures) Scope c.look_scope.result (c.in_ok-tag.was ∙ ap Ok c.in-Scope.is) (c.look_scope.ensures.is at)
+    (c.try_from.ensures ∙ ap spelt c.from.ensures) Scope c.look_scope.result (c.in_ok-tag.was ∙ ap Ok c.in-Scope.is) (c.look_scope.ensures.is at c.args.actions)
 
 pub returns-in-Sequence-clause-is : goal.returns-in-Sequence-clause-is
 returns-in-Sequence-clause-is c =

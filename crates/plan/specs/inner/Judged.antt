@@ -1,6 +1,6 @@
 -- What the check for loops says, and what it knows after the nodes from k on.
 use Rattle.std.specs.Prelude.{ℕ, zero, suc, ◌+◌, ◌*◌, ◌≤◌, ◌<◌, ◌≡◌, List, [], ◌∷◌, ◌++◌, Bool, true, false, cond, get_or, map, eqb, Option, None, Some}
-use Rattle.field.specs.Answer.{Answer, good, refused, ◌>>◌}
+use Rattle.field.specs.Answer.{Answer, ◌>>◌}
 use Rattle.algebra.specs.Expr.{Expr}
 use Rattle.algebra.specs.Exclusive.{exclusive}
 use Rattle.plan.specs.Loops.{no_fault}
