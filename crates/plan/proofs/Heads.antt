@@ -2,13 +2,14 @@
 -- True because the tests on the way are those of the definition, in its order.
 use Prim.Native.Nat.{ℕ, suc, ◌+◌, ◌-◌, ◌≤◌, ◌<◌}
 use mathlib.Core.Path.{◌≡◌, refl, sym, ap, ◌∙◌}
-use mathlib.Core.List.{List, [], ◌∷◌, ◌++◌}
-use mathlib.Core.Bool.{Bool, true, false, ◌&&◌, ◌||◌}
+use mathlib.Core.List.{List, ◌∷◌, ◌++◌}
+use mathlib.Core.Logic.{◌⊎◌, inl, inr}
+use mathlib.Core.Bool.{Bool, true, false, cond, ◌&&◌, ◌||◌}
 use native.Mathlib.Omega.{arith}
 use lib.ListN.{length, get_or, take, drop}
 use lib.Seq.{get_or-take, get_or-drop, drop-cons}
 use lib.Dec.{T, eqb, leb}
-use borrow.Author.Tests.{lt-ltb, le-ltb, le-leb, lt-leb, eq-eqb, ne_eqb, eqb-true, eqb-false, leb-false}
+use borrow.Author.Tests.{lt-ltb, le-ltb, le-leb, lt-leb, eq-eqb, ne_eqb, leb-false}
 use Rattle.field.specs.Limits.{action_limit}
 use Rattle.field.specs.Refusals.{field_cut, unknown_tag, wrong_body, wrong_label, too_many_actions}
 use Rattle.field.specs.Answer.{Answer, good, refused}
@@ -18,9 +19,16 @@ use Rattle.field.proofs.Fields.{body_of_length}
 use Rattle.algebra.specs.Expr.{action}
 use Rattle.plan.specs.Reading.{is_label, is_name, Tag, action_tag, sequence_tag, choice_tag, parallel_tag, loop_tag, scope_tag, tag_spelt, Part, Reader, read_body}
 use Rattle.plan.specs.inner.Fields.{Inside, field_with, IsOperator, HeadIs}
+use Rattle.std.specs.Prelude.{Result, Ok, Err}
+use Rattle.field.specs.Says.{number_of}
+use Rattle.field.specs.declared.Fault.{Fault}
+use Rattle.field.specs.declared.Fault.TheVariants.{UnknownTag}
+use Rattle.plan.specs.inner.Numbers.{tag_number, spelt}
+use Rattle.plan.specs.declared.table.Tag as code
+use Rattle.plan.specs.declared.table.Tag.TheVariants.{Action, Sequence, Choice, Parallel, Loop, Scope}
 use Rattle.plan.specs.declared.Head.{Head}
 use Rattle.plan.specs.declared.Head.TheVariants as head
-use Rattle.plan.proofs.Operators.{Operator, sequence_of, choice_of, parallel_of, loop_of, scope_of, tag_number, tag, number, arity, own, own_named, built, number_tag}
+use Rattle.plan.proofs.Operators.{Operator, sequence_of, choice_of, parallel_of, loop_of, scope_of, tag, number, arity, own, own_named, built}
 use Rattle.plan.proofs.ReadBack.{header_passes, own_reads}
 use Rattle.plan.proofs.Rows.{own_byte, built_count, built_rows}
 
@@ -56,10 +64,10 @@ operator_head o s at n len t e l = record {
 }
 
 -- What a head says of a field it says of every field that is read in the same way.
-head_of_same : (r : Head) (s : List ℕ) (at n : ℕ) (f g : Reader → Answer Part) → ((read : Reader) → f read ≡ g read) → HeadIs r s at n g → HeadIs r s at n f
-head_of_same (head.Refused number carried) s at n f g e h = λ read. e read ∙ h read
-head_of_same (head.Action label) s at n f g e h = λ read. e read ∙ h read
-head_of_same (head.Operator tag byte members start len) s at n f g e h = record { built = h.built; reads = λ read. e read ∙ h.reads read; count = h.count; rows = h.rows }
+head_of_same : (r : Result Head Fault) (s : List ℕ) (at n : ℕ) (f g : Reader → Answer Part) → ((read : Reader) → f read ≡ g read) → HeadIs r s at n g → HeadIs r s at n f
+head_of_same (Err fault) s at n f g e h = λ read. e read ∙ h read
+head_of_same (Ok (head.Action label)) s at n f g e h = λ read. e read ∙ h read
+head_of_same (Ok (head.Operator tag byte members start len)) s at n f g e h = record { built = h.built; reads = λ read. e read ∙ h.reads read; count = h.count; rows = h.rows }
 
 -- the ways out of the tests of an action and of a scope
 
@@ -112,75 +120,65 @@ module _ (s : List ℕ) (at len n : ℕ) (h : Inside s len) where
 
 -- the ways out of the tests of every field
 
-unknown_zero : (t at : ℕ) → t ≡ 0 → tag_spelt t at ≡ refused unknown_tag at
-unfolding tag_spelt
-unknown_zero t at e = rw e
+-- The code's tags are those of the definition.
+abbrev pub meant : code.Tag → Tag
+meant Action = action_tag
+meant Sequence = sequence_tag
+meant Choice = choice_tag
+meant Parallel = parallel_tag
+meant Loop = loop_tag
+meant Scope = scope_tag
 
-unknown_high : (t at : ℕ) → 6 < t → tag_spelt t at ≡ refused unknown_tag at
-unfolding tag_spelt
-unknown_high t at h =
-    let no : (k : ℕ) → k ≤ 6 → eqb t k ≡ false = λ k i. ne_eqb t k (λ e. let z : ⊥ = omega arith in z) in
-    rw (no 1 (omega arith), no 2 (omega arith), no 3 (omega arith), no 4 (omega arith), no 5 (omega arith), no 6 (omega arith))
+abbrev tag_told : Result code.Tag Fault → ℕ → Answer Tag
+tag_told (Ok g) at = good (meant g)
+tag_told (Err fault) at = refused (number_of fault) at
 
-known_tag : (t : ℕ) → (t ≡ 0 → ⊥) → t ≤ 6 → (g : Tag) × (t ≡ tag_number g)
-known_tag t h0 h6 = go (eqb t 1) (eqb t 2) (eqb t 3) (eqb t 4) (eqb t 5) refl refl refl refl refl
+same_spelling : (t at : ℕ) → tag_spelt t at ≡ tag_told (spelt t) at
+unfolding tag_spelt
+same_spelling t at = go (eqb t 1) (eqb t 2) (eqb t 3) (eqb t 4) (eqb t 5) (eqb t 6)
   where
-    go : (b1 b2 b3 b4 b5 : Bool) → eqb t 1 ≡ b1 → eqb t 2 ≡ b2 → eqb t 3 ≡ b3 → eqb t 4 ≡ b4 → eqb t 5 ≡ b5 → (g : Tag) × (t ≡ tag_number g)
-    go true b2 b3 b4 b5 e1 e2 e3 e4 e5 = (action_tag, eqb-true t 1 e1)
-    go false true b3 b4 b5 e1 e2 e3 e4 e5 = (sequence_tag, eqb-true t 2 e2)
-    go false false true b4 b5 e1 e2 e3 e4 e5 = (choice_tag, eqb-true t 3 e3)
-    go false false false true b5 e1 e2 e3 e4 e5 = (parallel_tag, eqb-true t 4 e4)
-    go false false false false true e1 e2 e3 e4 e5 = (loop_tag, eqb-true t 5 e5)
-    go false false false false false e1 e2 e3 e4 e5 = (scope_tag, omega (arith, eqb-false t 1 e1, eqb-false t 2 e2, eqb-false t 3 e3, eqb-false t 4 e4, eqb-false t 5 e5))
+    go : (b1 b2 b3 b4 b5 b6 : Bool) →
+        cond b1 (good action_tag) (cond b2 (good sequence_tag) (cond b3 (good choice_tag) (cond b4 (good parallel_tag) (cond b5 (good loop_tag) (cond b6 (good scope_tag) (refused unknown_tag at))))))
+        ≡ tag_told (cond b1 (Ok Action) (cond b2 (Ok Sequence) (cond b3 (Ok Choice) (cond b4 (Ok Parallel) (cond b5 (Ok Loop) (cond b6 (Ok Scope) (Err UnknownTag))))))) at
+    go true b2 b3 b4 b5 b6 = refl
+    go false true b3 b4 b5 b6 = refl
+    go false false true b4 b5 b6 = refl
+    go false false false true b5 b6 = refl
+    go false false false false true b6 = refl
+    go false false false false false true = refl
+    go false false false false false false = refl
 
 module _ (s : List ℕ) (at n : ℕ) where
   pub header_cut : length s < 3 → (read : Reader) → field_with read s at n ≡ refused field_cut at
   unfolding field_with
   header_cut h read = rw (lt-leb 3 (length s) h)
 
-  tag_unknown : 3 ≤ length s → tag_spelt (tag_of s) at ≡ refused unknown_tag at → (read : Reader) → field_with read s at n ≡ refused unknown_tag at
+  tag_is : {r q : Result code.Tag Fault} → r ≡ spelt (tag_of s) → r ≡ q → tag_spelt (tag_of s) at ≡ tag_told q at
+  tag_is e f = same_spelling (tag_of s) at ∙ ap (λ q. tag_told q at) (sym e ∙ f)
+
+  pub tag_unknown : {r : Result code.Tag Fault} {fault : Fault} → 3 ≤ length s → r ≡ spelt (tag_of s) → r ≡ Err fault → (read : Reader) → field_with read s at n ≡ refused (number_of fault) at
   unfolding field_with
-  tag_unknown h e read = rw (le-leb 3 (length s) h, e)
-
-  pub tag_zero : 3 ≤ length s → tag_of s ≡ 0 → (read : Reader) → field_with read s at n ≡ refused unknown_tag at
-  tag_zero h e = tag_unknown h (unknown_zero (tag_of s) at e)
-
-  pub tag_high : 3 ≤ length s → 6 < tag_of s → (read : Reader) → field_with read s at n ≡ refused unknown_tag at
-  tag_high h e = tag_unknown h (unknown_high (tag_of s) at e)
-
-  -- the tests of the header are passed
-  module _ (h : 3 ≤ length s) (room : length_of s ≤ length s - 3) where
-    same_body : (g : Tag) → tag_of s ≡ tag_number g → (read : Reader) → field_with read s at n ≡ read_body read g (body_of s) at (3 + length_of s) n
-    same_body g e read = header_passes read s at n g h (rw e (number_tag g at)) room
-
-    pub body_head : (g : Tag) (r : Head) → tag_of s ≡ tag_number g → HeadIs r s at n (λ read. read_body read g (body_of s) at (3 + length_of s) n)
-        → HeadIs r s at n (λ read. field_with read s at n)
-    body_head g r e i = head_of_same r s at n (λ read. field_with read s at n) (λ read. read_body read g (body_of s) at (3 + length_of s) n) (same_body g e) i
-
-    operands_head : (o : Operator) → tag_of s ≡ number o → T (own_named o) → own o ≡ [] → own_byte o ≡ 0
-        → IsOperator (tag_of s) 0 (arity o) 3 (length_of s) s at n (λ read. field_with read s at n)
-    operands_head o e t p q =
-        let w : IsOperator (number o) (own_byte o) (arity o) (3 + length (own o)) (length_of s) s at n (λ read. read_body read (tag o) (body_of s) at (3 + length_of s) n) =
-        operator_head o s at n (length_of s) t (rw p) (rw p) in
-        rw e (body_head (tag o) (head.Operator (number o) 0 (arity o) 3 (length_of s)) e (rw (q, p) at w))
-
-    pub loop_head : tag_of s ≡ 5 → IsOperator (tag_of s) 0 3 3 (length_of s) s at n (λ read. field_with read s at n)
-    loop_head e = operands_head loop_of e tt refl refl
-
-    -- what is left of the six tags has two operands
-    pub two_operands_head : (tag_of s ≡ 0 → ⊥) → tag_of s ≤ 6 → (tag_of s ≡ 1 → ⊥) → (tag_of s ≡ 6 → ⊥) → (tag_of s ≡ 5 → ⊥)
-        → IsOperator (tag_of s) 0 2 3 (length_of s) s at n (λ read. field_with read s at n)
-    two_operands_head h0 h6 h1 h6' h5 = go (eqb (tag_of s) 2) (eqb (tag_of s) 3) refl refl
-      where
-        go : (b c : Bool) → eqb (tag_of s) 2 ≡ b → eqb (tag_of s) 3 ≡ c → IsOperator (tag_of s) 0 2 3 (length_of s) s at n (λ read. field_with read s at n)
-        go true c e f = operands_head sequence_of (eqb-true (tag_of s) 2 e) tt refl refl
-        go false true e f = operands_head choice_of (eqb-true (tag_of s) 3 f) tt refl refl
-        go false false e f = operands_head parallel_of (omega (arith, eqb-false (tag_of s) 2 e, eqb-false (tag_of s) 3 f)) tt refl refl
-
-  length_cut_at : (g : Tag) → 3 ≤ length s → tag_spelt (tag_of s) at ≡ good g → length s - 3 < length_of s → (read : Reader) → field_with read s at n ≡ refused field_cut at
-  unfolding field_with
-  length_cut_at g h e l read = rw (le-leb 3 (length s) h, e, lt-leb (length_of s) (length s - 3) l)
+  tag_unknown h e f read = rw (le-leb 3 (length s) h, tag_is e f)
 
   -- a tag of the table, and a length beyond the enclosing body
-  pub length_cut : 3 ≤ length s → (tag_of s ≡ 0 → ⊥) → tag_of s ≤ 6 → length s - 3 < length_of s → (read : Reader) → field_with read s at n ≡ refused field_cut at
-  length_cut h h0 h6 l = let (g, e) = known_tag (tag_of s) h0 h6 in length_cut_at g h (ap (λ (t : ℕ). tag_spelt t at) e ∙ number_tag g at) l
+  pub length_cut : {r : Result code.Tag Fault} {g : code.Tag} → 3 ≤ length s → r ≡ spelt (tag_of s) → r ≡ Ok g → length s - 3 < length_of s
+      → (read : Reader) → field_with read s at n ≡ refused field_cut at
+  unfolding field_with
+  length_cut h e f l read = rw (le-leb 3 (length s) h, tag_is e f, lt-leb (length_of s) (length s - 3) l)
+
+  -- the tests of the header are passed
+  module _ (h : 3 ≤ length s) (room : length_of s ≤ length s - 3) {t : Result code.Tag Fault} (e : t ≡ spelt (tag_of s)) where
+    pub body_head : (g : code.Tag) (r : Result Head Fault) → t ≡ Ok g → HeadIs r s at n (λ read. read_body read (meant g) (body_of s) at (3 + length_of s) n)
+        → HeadIs r s at n (λ read. field_with read s at n)
+    body_head g r f i =
+        head_of_same r s at n (λ read. field_with read s at n) (λ read. read_body read (meant g) (body_of s) at (3 + length_of s) n)
+        (λ read. header_passes read s at n (meant g) h (tag_is e f) room) i
+
+    -- three operands, or two
+    pub loop_head : {g : code.Tag} → t ≡ Ok g → g ≡ Loop → IsOperator (tag_number g) 0 3 3 (length_of s) s at n (λ read. field_with read s at n)
+    loop_head f e = rw e (body_head Loop (Ok (head.Operator Loop 0 3 3 (length_of s))) (f ∙ ap Ok e) (operator_head loop_of s at n (length_of s) tt refl refl))
+
+    pub two_operands_head : {g : code.Tag} → t ≡ Ok g → (g ≡ Sequence) ⊎ ((g ≡ Choice) ⊎ (g ≡ Parallel)) → IsOperator (tag_number g) 0 2 3 (length_of s) s at n (λ read. field_with read s at n)
+    two_operands_head f (inl e) = rw e (body_head Sequence (Ok (head.Operator Sequence 0 2 3 (length_of s))) (f ∙ ap Ok e) (operator_head sequence_of s at n (length_of s) tt refl refl))
+    two_operands_head f (inr (inl e)) = rw e (body_head Choice (Ok (head.Operator Choice 0 2 3 (length_of s))) (f ∙ ap Ok e) (operator_head choice_of s at n (length_of s) tt refl refl))
+    two_operands_head f (inr (inr e)) = rw e (body_head Parallel (Ok (head.Operator Parallel 0 2 3 (length_of s))) (f ∙ ap Ok e) (operator_head parallel_of s at n (length_of s) tt refl refl))

@@ -1,56 +1,102 @@
 -- What the code answers for each tag is what `exclusive_by` and `fault_by` say.
--- True by the tests that led there: each settles one test of the definition.
-use Prim.Native.Nat.{ℕ, ◌+◌, ◌*◌, ◌≤◌, ◌<◌}
+-- True because a tag's number settles each test of the definitions.
+use Prim.Native.Nat.{ℕ, zero, suc, ◌+◌, ◌≤◌, ◌<◌}
 use mathlib.Core.Path.{◌≡◌, refl, sym, ◌∙◌, ap}
-use mathlib.Core.List.{List}
-use lib.ListN.{get_or}
-use borrow.Author.Tests.{ne_eqb, le-leb, lt-leb}
-use Rattle.field.specs.Refusals.{body_not_exclusive}
-use Rattle.field.specs.Answer.{good, refused}
-use Rattle.plan.specs.Loops.{no_fault}
-use Rattle.plan.specs.inner.Table.{tag_at, after_at}
-use Rattle.plan.specs.inner.Judged.{offset_says, exclusive_by, fault_by}
-use Rattle.plan.proofs.NodeTable.{is, is_not}
+use mathlib.Core.List.{List, [], ◌∷◌}
+use mathlib.Core.Logic.{◌⊎◌, inl, inr}
+use mathlib.Core.Bool.{Bool, true, false, cond}
+use lib.ListN.{length, get_or, get_or-map}
+use lib.Dec.{eqb}
+use borrow.Author.Tests.{ne_eqb}
+use native.Mathlib.Omega.{arith}
+use Rattle.std.specs.Prelude.{Result, Ok, Err}
+use Rattle.field.specs.declared.Fault.{Fault}
+use Rattle.plan.specs.declared.table.Row.{Row}
+use Rattle.plan.specs.declared.table.Tag.{Tag}
+use Rattle.plan.specs.declared.table.Tag.TheVariants.{Action, Sequence, Choice, Parallel, Loop, Scope}
+use Rattle.plan.specs.inner.Numbers.{spelt, table_numbers}
+use Rattle.plan.specs.inner.Table.{after_at}
+use Rattle.plan.specs.inner.Judged.{bit, bits, exclusive_by, fault_by}
+use Rattle.plan.proofs.NodeRows.{tag_of_row, at_of_row}
 
-module _ (rows table : List ℕ) (k : ℕ) {tag : ℕ} (read : tag ≡ tag_at rows k) where
-  pub choice_first_not : {v : ℕ} → tag ≡ 3 → v ≡ get_or table (k + 1) 0 → v ≡ 0 → 0 ≡ exclusive_by rows table k
+-- Whether a node is exclusive, by its tag, and by what was judged of its first operand and of its second.
+abbrev pub by_tag : Result Tag Fault → ℕ → ℕ → ℕ
+by_tag (Ok Action) a b = 1
+by_tag (Ok Sequence) a b = 1
+by_tag (Ok Choice) a b = cond (eqb a 0) 0 b
+by_tag (Ok Parallel) a b = 0
+by_tag (Ok Loop) a b = 1
+by_tag (Ok Scope) a b = a
+by_tag (Err e) a b = 1
+
+no_tag : (t n : ℕ) → n ≤ 6 → 6 < t → eqb t n ≡ false
+no_tag t n h i = ne_eqb t n (λ e. let z : ⊥ = omega arith in z)
+
+by_number : (t a b : ℕ) → by_tag (spelt t) a b ≡ cond (eqb t 3) (cond (eqb a 0) 0 b) (cond (eqb t 4) 0 (cond (eqb t 6) a 1))
+by_number zero a b = refl
+by_number (suc zero) a b = refl
+by_number (suc (suc zero)) a b = refl
+by_number (suc (suc (suc zero))) a b = refl
+by_number (suc (suc (suc (suc zero)))) a b = refl
+by_number (suc (suc (suc (suc (suc zero))))) a b = refl
+by_number (suc (suc (suc (suc (suc (suc zero)))))) a b = refl
+by_number (suc (suc (suc (suc (suc (suc (suc n))))))) a b =
+    let t : ℕ = suc (suc (suc (suc (suc (suc (suc n)))))) in
+    rw (no_tag t 1 (omega arith) (omega arith), no_tag t 2 (omega arith) (omega arith), no_tag t 3 (omega arith) (omega arith), no_tag t 4 (omega arith) (omega arith), no_tag t 5 (omega arith) (omega arith), no_tag t 6 (omega arith) (omega arith))
+
+both_bits : (a b : Bool) → a ≡ true → bit b ≡ cond (eqb (bit a) 0) 0 (bit b)
+both_bits a b e = rw e
+
+first_bit : (a b : Bool) → a ≡ false → 0 ≡ cond (eqb (bit a) 0) 0 (bit b)
+first_bit a b e = rw e
+
+none_either : (b : Bool) → cond {A = List ℕ} b [] [] ≡ []
+none_either true = refl
+none_either false = refl
+
+module _ (rows : List Row) (bs : List Bool) (k : ℕ) (d : Row) (h : k < length rows) where
+  pub judged_as : {r g : Result Tag Fault} → r ≡ spelt (get_or rows k d).tag → r ≡ g
+      → by_tag g (bit (get_or bs (k + 1) false)) (bit (get_or bs (after_at (table_numbers rows) (k + 1)) false)) ≡ exclusive_by (table_numbers rows) (bits bs) k
   unfolding exclusive_by
-  choice_first_not t e z = rw (is read t, sym e ∙ z) refl
+  judged_as {r} {g} s e =
+      let a = get_or-map bit bs (k + 1) false in
+      let b = get_or-map bit bs (after_at (table_numbers rows) (k + 1)) false in
+      rw (tag_of_row rows k d h, a, b)
+      (ap (λ q. by_tag q (bit (get_or bs (k + 1) false)) (bit (get_or bs (after_at (table_numbers rows) (k + 1)) false))) (sym e ∙ s)
+      ∙ by_number (get_or rows k d).tag _ _)
 
-  pub choice_second : {v b w : ℕ} → tag ≡ 3 → v ≡ get_or table (k + 1) 0 → (v ≡ 0 → ⊥) → b ≡ after_at rows (k + 1) → w ≡ get_or table b 0 → w ≡ exclusive_by rows table k
-  unfolding exclusive_by
-  choice_second t e z p q = rw (is read t, ne_eqb (get_or table (k + 1) 0) 0 (λ y. z (e ∙ y))) (q ∙ ap (λ b. get_or table b 0) p)
+  -- an action, a sequence, a loop
+  pub always : {r : Result Tag Fault} {g : Tag} → r ≡ spelt (get_or rows k d).tag → r ≡ Ok g → (g ≡ Action) ⊎ ((g ≡ Sequence) ⊎ (g ≡ Loop))
+      → 1 ≡ exclusive_by (table_numbers rows) (bits bs) k
+  always s e (inl a) = judged_as s (e ∙ ap Ok a)
+  always s e (inr (inl a)) = judged_as s (e ∙ ap Ok a)
+  always s e (inr (inr a)) = judged_as s (e ∙ ap Ok a)
 
-  pub parallel_not : (tag ≡ 3 → ⊥) → tag ≡ 4 → 0 ≡ exclusive_by rows table k
-  unfolding exclusive_by
-  parallel_not a t = rw (is read t) refl
+  -- a choice by its first operand, and by its second
 
-  pub scope_operand_is : {v : ℕ} → (tag ≡ 3 → ⊥) → (tag ≡ 4 → ⊥) → tag ≡ 6 → v ≡ get_or table (k + 1) 0 → v ≡ exclusive_by rows table k
-  unfolding exclusive_by
-  scope_operand_is a b t e = rw (is read t) e
+  pub choice_first : {r : Result Tag Fault} {v : Bool} → r ≡ spelt (get_or rows k d).tag → r ≡ Ok Choice → v ≡ get_or bs (k + 1) false → v ≡ false
+      → bit v ≡ exclusive_by (table_numbers rows) (bits bs) k
+  choice_first s e p z = ap bit z ∙ first_bit _ _ (sym p ∙ z) ∙ judged_as s e
 
-  pub others_are : (tag ≡ 3 → ⊥) → (tag ≡ 4 → ⊥) → (tag ≡ 6 → ⊥) → 1 ≡ exclusive_by rows table k
-  unfolding exclusive_by
-  others_are a b d =
-      rw (ne_eqb (tag_at rows k) 3 (is_not read a), ne_eqb (tag_at rows k) 4 (is_not read b), ne_eqb (tag_at rows k) 6 (is_not read d)) refl
+  pub choice_second : {r : Result Tag Fault} {v w : Bool} {m : ℕ} → r ≡ spelt (get_or rows k d).tag → r ≡ Ok Choice → v ≡ get_or bs (k + 1) false → v ≡ true
+      → m ≡ after_at (table_numbers rows) (k + 1) → w ≡ get_or bs m false → bit w ≡ exclusive_by (table_numbers rows) (bits bs) k
+  choice_second s e p z q w = ap bit (w ∙ ap (λ m. get_or bs m false) q) ∙ both_bits _ _ (sym p ∙ z) ∙ judged_as s e
 
-  pub loop_faulty : {b v at : ℕ} → tag ≡ 5 → b ≡ after_at rows (k + 1) → v ≡ get_or table b 0 → v ≡ 0 → at ≡ get_or rows (6 * k + 5) 0
-      → refused body_not_exclusive at ≡ no_fault (fault_by rows table k)
+  -- a loop by its body
+
+  fault_is : {t v : Bool} {m : ℕ} → t ≡ eqb (get_or rows k d).tag 5 → m ≡ after_at (table_numbers rows) (k + 1) → v ≡ get_or bs m false
+      → fault_by (table_numbers rows) (bits bs) k ≡ cond t (cond (eqb (bit v) 0) ((get_or rows k d).at ∷ []) []) []
   unfolding fault_by
-  loop_faulty t p q z o = rw (is read t, sym (q ∙ ap (λ b. get_or table b 0) p) ∙ z) (ap (refused body_not_exclusive) o)
+  fault_is t q w =
+      rw (tag_of_row rows k d h, at_of_row rows k d h, get_or-map bit bs (after_at (table_numbers rows) (k + 1)) false, t, w, q)
 
-  pub loop_fine : {b v : ℕ} → tag ≡ 5 → b ≡ after_at rows (k + 1) → v ≡ get_or table b 0 → (v ≡ 0 → ⊥) → good tt ≡ no_fault (fault_by rows table k)
-  unfolding fault_by
-  loop_fine t p q z =
-      rw (is read t, ne_eqb (get_or table (after_at rows (k + 1)) 0) 0 (λ y. z (q ∙ ap (λ b. get_or table b 0) p ∙ y))) refl
+  pub no_loop : {t : Bool} → t ≡ eqb (get_or rows k d).tag 5 → t ≡ false → [] ≡ fault_by (table_numbers rows) (bits bs) k
+  no_loop t f = sym (fault_is {t = false} (sym f ∙ t) refl refl)
 
-  pub no_loop : (tag ≡ 5 → ⊥) → good tt ≡ no_fault (fault_by rows table k)
-  unfolding fault_by
-  no_loop a = rw (ne_eqb (tag_at rows k) 5 (is_not read a)) refl
+  pub loop_fine : {t v : Bool} {m : ℕ} → t ≡ eqb (get_or rows k d).tag 5 → m ≡ after_at (table_numbers rows) (k + 1) → v ≡ get_or bs m false → v ≡ true
+      → [] ≡ fault_by (table_numbers rows) (bits bs) k
+  loop_fine {t} s q w e = sym (fault_is s q w ∙ rw e (none_either t))
 
--- An offset has 16 bits, and a number above them is none.
-pub an_offset : (n : ℕ) → n ≤ 65535 → offset_says n ≡ refused body_not_exclusive n
-an_offset n h = rw (le-leb n 65535 h) refl
-
-pub no_offset : (n : ℕ) → 65535 < n → offset_says n ≡ good tt
-no_offset n h = rw (lt-leb n 65535 h) refl
+  pub loop_faulty : {t v : Bool} {m at : ℕ} → t ≡ eqb (get_or rows k d).tag 5 → t ≡ true → m ≡ after_at (table_numbers rows) (k + 1) → v ≡ get_or bs m false → v ≡ false
+      → at ≡ (get_or rows k d).at → at ∷ [] ≡ fault_by (table_numbers rows) (bits bs) k
+  loop_faulty s t q w e o = ap (λ (n : ℕ). n ∷ []) o ∙ sym (fault_is s q w ∙ rw (t, e) refl)

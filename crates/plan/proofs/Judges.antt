@@ -5,8 +5,11 @@ use native.Mathlib.Omega.{arith}
 use mathlib.Core.Path.{◌≡◌, refl, sym, ◌∙◌, ap, ap₂, subst}
 use mathlib.Core.List.{List, [], ◌∷◌, ◌++◌, append_assoc, append-nil}
 use mathlib.Core.Bool.{Bool, true, false, cond, ◌&&◌}
-use lib.ListN.{length, get_or, set}
+use lib.ListN.{length, get_or, set, length-map}
 use lib.Seq.{get_or-set_same, get_or-set_other}
+use Rattle.std.specs.Prelude.{Option, None, Some}
+use Rattle.std.specs.Option.{option_or}
+use Rattle.std.proofs.lemmas.List.{map-set}
 use lib.Dec.{eqb}
 use borrow.Author.Tests.{eqb-true}
 use Rattle.field.specs.Answer.{Answer, good, ◌>>◌}
@@ -15,7 +18,8 @@ use Rattle.algebra.specs.Exclusive.{exclusive}
 use Rattle.plan.specs.Loops.{faulty_loops, no_fault, check_loops}
 use Rattle.plan.specs.inner.Nodes.{node_count}
 use Rattle.plan.specs.inner.Table.{Table, Node, tag_at, after_at, Known}
-use Rattle.plan.specs.inner.Judged.{bit, exclusive_bit, exclusive_by, fault_by, all_values, Judged}
+use Rattle.plan.specs.inner.Judging.{JudgesDown}
+use Rattle.plan.specs.inner.Judged.{fault_told, bit, bits, exclusive_bit, exclusive_by, fault_by, all_values, Judged}
 use Rattle.plan.proofs.Stands.{stands_one}
 use Rattle.plan.proofs.NodeTable.{node_says, sequence_operands, choice_operands, parallel_operands, loop_operands, scope_operand}
 use Rattle.plan.proofs.NodeValues.{table_node, every, none_known, one_known}
@@ -130,7 +134,7 @@ first_alone [] = refl
 first_alone (at ∷ l) = refl
 
 -- Nothing is left to judge.
-pub none_left : (rows table : List ℕ) {k : ℕ} (answer : Answer (Unit {0})) → k ≡ 0 → Judged rows k table table answer answer
+none_left : (rows table : List ℕ) {k : ℕ} (answer : Answer (Unit {0})) → k ≡ 0 → Judged rows k table table answer answer
 unfolding all_values
 none_left rows table answer e =
     subst (λ k. Judged rows k table table answer answer) (sym e)
@@ -168,19 +172,27 @@ module _ (rows : List ℕ) (k : ℕ) (before after : List ℕ) (here : k < lengt
             ∙ ap (λ l. no_fault l >> rest) (sym (joined_last (fault_by rows after) k));
       }
 
--- The same of what the code answers.
-pub turn : (rows before after : List ℕ) {k v : ℕ} {rest own found answer : Answer (Unit {0})} → k < length before
-    → v ≡ exclusive_by rows before k → own ≡ no_fault (fault_by rows (set before k v) k) → found ≡ (own >> rest)
-    → Judged rows k (set before k v) after found answer → Judged rows (k + 1) before after rest answer
-turn rows before after {k} {v} {rest} {own} {found} {answer} fits e f g j =
-    let at : ℕ → List ℕ = λ w. set before k w in
-    let q : found ≡ (no_fault (fault_by rows (at (exclusive_by rows before k)) k) >> rest) = g ∙ ap (λ a. a >> rest) (f ∙ ap (λ w. no_fault (fault_by rows (at w) k)) e) in
-    let i : Judged rows k (at (exclusive_by rows before k)) after found answer = subst (λ w. Judged rows k (at w) after found answer) e j in
-    one_more rows k before after fits (subst (λ a. Judged rows k (at (exclusive_by rows before k)) after a answer) q i)
-
 -- One number written in two ways.
 pub moved : {rows before after : List ℕ} {k m : ℕ} {rest answer : Answer (Unit {0})} → k ≡ m → Judged rows k before after rest answer → Judged rows m before after rest answer
 moved {rows} {before} {after} {rest = rest} {answer = answer} e j = subst (λ n. Judged rows n before after rest answer) e j
+
+-- The first of two faults.
+first_told : (own later : Option ℕ) → no_fault (fault_told (option_or own later)) ≡ (no_fault (fault_told own) >> no_fault (fault_told later))
+first_told None later = refl
+first_told (Some at) later = refl
+
+-- The same of what the code answers.
+pub turn : (rows after : List ℕ) (k : ℕ) (bs : List Bool) (later own : Option ℕ) (b : Bool) (answer : Answer (Unit {0})) → k < length bs
+    → bit b ≡ exclusive_by rows (bits bs) k → fault_told own ≡ fault_by rows (bits (set bs k b)) k
+    → Judged rows k (bits (set bs k b)) after (no_fault (fault_told (option_or own later))) answer → Judged rows (k + 1) (bits bs) after (no_fault (fault_told later)) answer
+turn rows after k bs later own b answer fits e f j =
+    let here : k < length (bits bs) = omega (arith, length-map bs bit) in
+    let s : bits (set bs k b) ≡ set (bits bs) k (exclusive_by rows (bits bs) k) = map-set bit bs k b ∙ ap (λ v. set (bits bs) k v) e in
+    let q : no_fault (fault_told (option_or own later)) ≡ (no_fault (fault_by rows (set (bits bs) k (exclusive_by rows (bits bs) k)) k) >> no_fault (fault_told later)) =
+    first_told own later ∙ ap (λ l. no_fault l >> no_fault (fault_told later)) (f ∙ ap (λ t. fault_by rows t k) s) in
+    let i : Judged rows k (set (bits bs) k (exclusive_by rows (bits bs) k)) after (no_fault (fault_told (option_or own later))) answer =
+    subst (λ t. Judged rows k t after (no_fault (fault_told (option_or own later))) answer) s j in
+    one_more rows k (bits bs) after here (subst (λ a. Judged rows k (set (bits bs) k (exclusive_by rows (bits bs) k)) after a answer) q i)
 
 -- A loop's body comes after it.
 loops_ordered : (rows : List ℕ) (count k i at : ℕ) (E : Expr) → Node rows count k i at E → tag_at rows k ≡ 5 → k < after_at rows (k + 1)
@@ -192,7 +204,7 @@ loops_ordered rows count k i at (loop E F G) n e = omega (arith, (node_says rows
 loops_ordered rows count k i at (scope a E) n e = absurd (omega (arith, (node_says rows count (scope a E) n).tag))
 
 -- After the last node the answer is that of the check for loops.
-pub all_judged : {rows before after : List ℕ} {count : ℕ} {answer : Answer (Unit {0})} → Judged rows count before after (good tt) answer
+all_judged : {rows before after : List ℕ} {count : ℕ} {answer : Answer (Unit {0})} → Judged rows count before after (good tt) answer
     → (E : Expr) → Table rows count E → answer ≡ check_loops E
 unfolding check_loops
 all_judged {rows} {before} {after} {count} j E t =
@@ -202,3 +214,7 @@ all_judged {rows} {before} {after} {count} j E t =
     ∙ first_alone (all_values (fault_by rows after) 0 count)
     ∙ ap (λ m. no_fault (all_values (fault_by rows after) 0 m)) t.nodes
     ∙ ap no_fault (faults_right rows count after known _ E n).same
+
+pub check_answered : (rows : List ℕ) (count : ℕ) (entry exit : List Bool) (first : Option ℕ) → JudgesDown rows 0 count entry exit None first
+    → (E : Expr) → Table rows count E → no_fault (fault_told first) ≡ check_loops E
+check_answered rows count entry exit first down = all_judged (down _ _ (none_left rows (bits exit) (no_fault (fault_told first)) refl))

@@ -16,5 +16,6 @@ pub mod Readers
 pub mod Rows
 pub mod Stores
 pub mod WholePlan
+pub mod Reasons
 pub mod ReaderDetermined
 pub mod NodeRows

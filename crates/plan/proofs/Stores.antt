@@ -4,18 +4,19 @@ use Prim.Native.Nat.{ℕ, suc, ◌+◌, ◌*◌, ◌≤◌, ◌<◌}
 use mathlib.Core.Path.{◌≡◌, refl, sym, ap, ◌∙◌}
 use mathlib.Core.List.{List, [], ◌∷◌, ◌++◌}
 use native.Mathlib.Omega.{arith}
-use native.Mathlib.Nat.{add-zero}
-use native.Mathlib.Numerals.{add-one, add-two, add-three}
 use lib.ListN.{length, set}
 use lib.Seq.{sets, set_comm}
+use Rattle.field.proofs.NumbersOfRows.{numbers_set}
+pub use Rattle.field.proofs.NumbersOfRows.{sets_append}
 use Rattle.algebra.specs.Expr.{Expr}
-use Rattle.plan.specs.inner.Nodes.{Row, row, numbers, node_count, nodes}
-use Rattle.plan.specs.inner.Fields.{with_row}
+use denote.Enum.Declared.{tag_of}
+use Rattle.plan.specs.contracts.table.Tag.{the_type}
+use Rattle.plan.specs.declared.table.Tag.{Tag}
+use Rattle.plan.specs.declared.table.Tag.TheVariants.{Action, Sequence, Choice, Parallel, Loop, Scope}
+use Rattle.plan.specs.declared.table.Row as code
+use Rattle.plan.specs.inner.Nodes.{Row, numbers, node_count, nodes}
+use Rattle.plan.specs.inner.Numbers.{tag_number, row_numbers, table_numbers}
 use Rattle.plan.proofs.Rows.{numbers_append, numbers_length, nodes_length}
-
-pub sets_append : (l : List ℕ) (i : ℕ) (xs ys : List ℕ) → sets l i (xs ++ ys) ≡ sets (sets l i xs) (i + length xs) ys
-sets_append l i [] ys = rw add-zero
-sets_append l i (x ∷ xs) ys = sets_append (set l i x) (suc i) xs ys ∙ ap (λ (k : ℕ). sets (sets (set l i x) (suc i) xs) k ys) (omega arith)
 
 -- a store before a run of stores may be done after it
 set_sets : (l : List ℕ) (i j v : ℕ) (xs : List ℕ) → j < i → set (sets l i xs) j v ≡ sets (set l j v) i xs
@@ -29,31 +30,25 @@ sets_sets l i j xs [] h = refl
 sets_sets l i j xs (y ∷ ys) h =
     ap (λ (m : List ℕ). sets m (suc j) ys) (set_sets l i j y xs (omega arith)) ∙ sets_sets (set l j y) i (suc j) xs ys (omega arith)
 
-six : ℕ → ℕ → ℕ → ℕ → ℕ → ℕ → List ℕ
-six a b c d e f = a ∷ (b ∷ (c ∷ (d ∷ (e ∷ (f ∷ [])))))
+-- a row that is stored is its six numbers stored
+pub row_stored : (rows : List code.Row) (k : ℕ) (r : code.Row) → k < length rows → table_numbers (set rows k r) ≡ sets (table_numbers rows) (6 * k) (row_numbers r)
+row_stored rows k r h = numbers_set row_numbers 6 (λ q. refl) rows k r h
 
-with_row_sets : (l : List ℕ) (i a b c d e f : ℕ) → with_row l i a b c d e f ≡ sets l i (six a b c d e f)
-unfolding six
-with_row_sets l i a b c d e f =
-    let four : i + 4 ≡ suc (suc (suc (suc i))) = omega arith in
-    let five : i + 5 ≡ suc (suc (suc (suc (suc i)))) = omega arith in
-    rw (add-one, add-two, add-three, four, five)
+abbrev pub six : Row → List ℕ
+six r = r.tag ∷ (r.byte ∷ (r.members ∷ (r.after ∷ (r.first ∷ (r.at ∷ [])))))
 
-pub one_row : (l : List ℕ) (k a b c d e f : ℕ) → with_row l (6 * k) a b c d e f ≡ sets l (6 * k) (numbers (row a b c d e f ∷ []))
-unfolding numbers six
-one_row l k a b c d e f = with_row_sets l (6 * k) a b c d e f
+pub one_row : (l : List ℕ) (k : ℕ) (r : Row) → sets l (6 * k) (six r) ≡ sets l (6 * k) (numbers (r ∷ []))
+unfolding numbers
+one_row l k r = refl
 
 -- an operator's row, stored after the rows of its operands, stands before them
-pub row_before : (l : List ℕ) (k a b c d e f : ℕ) (rs : List Row)
-    → with_row (sets l (6 * (k + 1)) (numbers rs)) (6 * k) a b c d e f ≡ sets l (6 * k) (numbers (row a b c d e f ∷ rs))
-unfolding numbers six
-row_before l k a b c d e f rs =
-    let q = six a b c d e f in
+pub row_before : (l : List ℕ) (k : ℕ) (r : Row) (rs : List Row) → sets (sets l (6 * (k + 1)) (numbers rs)) (6 * k) (six r) ≡ sets l (6 * k) (numbers (r ∷ rs))
+unfolding numbers
+row_before l k r rs =
     let i : 6 * k + 6 ≡ 6 * (k + 1) = omega arith in
-    with_row_sets (sets l (6 * (k + 1)) (numbers rs)) (6 * k) a b c d e f
-    ∙ sets_sets l (6 * (k + 1)) (6 * k) (numbers rs) q (omega arith)
-    ∙ ap (λ (j : ℕ). sets (sets l (6 * k) q) j (numbers rs)) (sym i)
-    ∙ sym (sets_append l (6 * k) q (numbers rs))
+    sets_sets l (6 * (k + 1)) (6 * k) (numbers rs) (six r) (omega arith)
+    ∙ ap (λ (j : ℕ). sets (sets l (6 * k) (six r)) j (numbers rs)) (sym i)
+    ∙ sym (sets_append l (6 * k) (six r) (numbers rs))
 
 -- the rows of an expression, and then those of the next ones
 pub rows_after : (l : List ℕ) (k i at : ℕ) (E : Expr) (rs : List Row)
@@ -63,3 +58,12 @@ rows_after l k i at E rs =
     ap (λ (j : ℕ). sets (sets l (6 * k) (numbers (nodes k i at E))) j (numbers rs)) (sym n)
     ∙ sym (sets_append l (6 * k) (numbers (nodes k i at E)) (numbers rs))
     ∙ ap (λ (q : List ℕ). sets l (6 * k) q) (sym (numbers_append (nodes k i at E) rs))
+
+-- the code's number of a tag is 01's
+pub tag_stored : (g : Tag) → tag_of the_type g + 1 ≡ tag_number g
+tag_stored Action = refl
+tag_stored Sequence = refl
+tag_stored Choice = refl
+tag_stored Parallel = refl
+tag_stored Loop = refl
+tag_stored Scope = refl

@@ -64,7 +64,11 @@ impl Row {
 pub fn row_at(rows: &[Row], k: usize) -> Row
     ensures { result ≡ row_of (table_numbers rows.now) k }
 {
-    if k < rows.len() { rows[k] } else { Row::default() }
+    if k < rows.len() {
+        rows[k]
+    } else {
+        Row::default()
+    }
 }
 
 /// The number of the node after the subtree of node k.

@@ -1,89 +1,49 @@
 -- `plan::look` meets its contract: each way out is a law of `Heads`, and a body's own tests say of the field what they say of the body.
 -- Assumes nothing.
-use native.Mathlib.Omega.{arith}
-use Rattle.plan.specs.Reading.{action_tag, scope_tag}
-use Rattle.plan.proofs.Heads.{header_cut, tag_zero, tag_high, length_cut, body_head, loop_head, two_operands_head}
+use Rattle.std.proofs.Common.{arith, ap, ◌∙◌, Ok}
+use Rattle.std.proofs.lemmas.Result.{err_from_is_err_and}
+use Rattle.plan.specs.inner.Numbers.{spelt}
+use Rattle.plan.specs.declared.table.Tag.TheVariants.{Action, Scope}
+use Rattle.plan.proofs.Heads.{header_cut, tag_unknown, length_cut, body_head, loop_head, two_operands_head}
 use Rattle.plan.proofs.look.Goals as goal
 
-pub returns-then-s-lt3 : goal.returns-then-s-lt3
-returns-then-s-lt3 c =
-    let a = c.args in
-    record {
-      fits = tt;
-      is = header_cut a.s.now a.at a.actions c.if-s-lt3.true;
-    }
+pub returns-then-s-lt3-clause-is : goal.returns-then-s-lt3-clause-is
+returns-then-s-lt3-clause-is c = λ at. header_cut c.args.s.now at c.args.actions c.if-s-lt3.true
 
-pub returns-then-tag-eq0 : goal.returns-then-tag-eq0
-returns-then-tag-eq0 c =
-    let a = c.args in
-    record {
-      fits = tt;
-      is = tag_zero a.s.now a.at a.actions c.if-s-lt3.false c.if-tag-eq0.true;
-    }
+pub returns-in_err-tag-clause-is : goal.returns-in_err-tag-clause-is
+returns-in_err-tag-clause-is c =
+    λ at.
+    let p = err_from_is_err_and c.from_residual.result c.from_residual.ensures.1 in
+    rw (p.1, p.2) (tag_unknown c.args.s.now at c.args.actions c.if-s-lt3.false (c.try_from.ensures ∙ ap spelt c.from.ensures) c.in_err-tag.was)
 
-pub returns-then-tag-gt-SCOPE_TAG : goal.returns-then-tag-gt-SCOPE_TAG
-returns-then-tag-gt-SCOPE_TAG c =
-    let a = c.args in
-    record {
-      fits = tt;
-      is = tag_high a.s.now a.at a.actions c.if-s-lt3.false c.if-tag-gt-SCOPE_TAG.true;
-    }
+pub returns-then-s-len-clause-is : goal.returns-then-s-len-clause-is
+returns-then-s-len-clause-is c =
+    λ at.
+    length_cut c.args.s.now at c.args.actions c.if-s-lt3.false (c.try_from.ensures ∙ ap spelt c.from.ensures) c.in_ok-tag.was
+    (omega (arith, c.from-len.ensures, c.from_be_bytes.ensures))
 
-pub overflow_cast-len : goal.overflow_cast-len
-overflow_cast-len c =
-    omega (arith, c.type_inv.s 1, c.type_inv.s 2)
+pub returns-in-Action-clause-is : goal.returns-in-Action-clause-is
+returns-in-Action-clause-is c =
+    λ at.
+    body_head c.args.s.now at c.args.actions c.if-s-lt3.false (omega (arith, c.from-len.ensures, c.from_be_bytes.ensures))
+    (c.try_from.ensures ∙ ap spelt c.from.ensures) Action c.look_action.result (c.in_ok-tag.was ∙ ap Ok c.in-Action.is) (c.look_action.ensures.is at)
 
-pub overflow_mul-len : goal.overflow_mul-len
-overflow_mul-len c =
-    omega (arith, c.type_inv.s 1, c.type_inv.s 2)
+pub returns-in-Scope-clause-is : goal.returns-in-Scope-clause-is
+returns-in-Scope-clause-is c =
+    λ at.
+    body_head c.args.s.now at c.args.actions c.if-s-lt3.false (omega (arith, c.from-len.ensures, c.from_be_bytes.ensures))
+    (c.try_from.ensures ∙ ap spelt c.from.ensures) Scope c.look_scope.result (c.in_ok-tag.was ∙ ap Ok c.in-Scope.is) (c.look_scope.ensures.is at c.args.actions)
 
-pub overflow_cast-len-2 : goal.overflow_cast-len-2
-overflow_cast-len-2 c =
-    omega (arith, c.type_inv.s 1, c.type_inv.s 2)
+pub returns-in-Sequence-clause-is : goal.returns-in-Sequence-clause-is
+returns-in-Sequence-clause-is c =
+    λ at.
+    rw (c.from-len.ensures, c.from_be_bytes.ensures)
+    (two_operands_head c.args.s.now at c.args.actions c.if-s-lt3.false (omega (arith, c.from-len.ensures, c.from_be_bytes.ensures))
+    (c.try_from.ensures ∙ ap spelt c.from.ensures) c.in_ok-tag.was c.in-Sequence.is)
 
-pub overflow_add-len : goal.overflow_add-len
-overflow_add-len c =
-    omega (arith, c.type_inv.s 1, c.type_inv.s 2)
-
-pub returns-then-s-len : goal.returns-then-s-len
-returns-then-s-len c =
-    let a = c.args in
-    record {
-      fits = tt;
-      is = length_cut a.s.now a.at a.actions c.if-s-lt3.false c.if-tag-eq0.false c.if-tag-gt-SCOPE_TAG.false (omega arith);
-    }
-
-pub returns-then-tag-eq-ACTION_TAG : goal.returns-then-tag-eq-ACTION_TAG
-returns-then-tag-eq-ACTION_TAG c =
-    let a = c.args in
-    record {
-      fits = c.look_action.ensures.fits;
-      is = body_head a.s.now a.at a.actions c.if-s-lt3.false c.if-s-len.false action_tag c.look_action.result c.if-tag-eq-ACTION_TAG.true
-          c.look_action.ensures.is;
-    }
-
-pub returns-then-tag-eq-SCOPE_TAG : goal.returns-then-tag-eq-SCOPE_TAG
-returns-then-tag-eq-SCOPE_TAG c =
-    let a = c.args in
-    record {
-      fits = c.look_scope.ensures.fits;
-      is = body_head a.s.now a.at a.actions c.if-s-lt3.false c.if-s-len.false scope_tag c.look_scope.result c.if-tag-eq-SCOPE_TAG.true
-          c.look_scope.ensures.is;
-    }
-
-pub returns-then-tag-eq-LOOP_TAG : goal.returns-then-tag-eq-LOOP_TAG
-returns-then-tag-eq-LOOP_TAG c =
-    let a = c.args in
-    record {
-      fits = omega arith;
-      is = loop_head a.s.now a.at a.actions c.if-s-lt3.false c.if-s-len.false c.if-tag-eq-LOOP_TAG.true;
-    }
-
-pub returns-else-tag-eq-LOOP_TAG : goal.returns-else-tag-eq-LOOP_TAG
-returns-else-tag-eq-LOOP_TAG c =
-    let a = c.args in
-    record {
-      fits = omega arith;
-      is = two_operands_head a.s.now a.at a.actions c.if-s-lt3.false c.if-s-len.false c.if-tag-eq0.false
-          c.if-tag-gt-SCOPE_TAG.false c.if-tag-eq-ACTION_TAG.false c.if-tag-eq-SCOPE_TAG.false c.if-tag-eq-LOOP_TAG.false;
-    }
+pub returns-in-Loop-clause-is : goal.returns-in-Loop-clause-is
+returns-in-Loop-clause-is c =
+    λ at.
+    rw (c.from-len.ensures, c.from_be_bytes.ensures)
+    (loop_head c.args.s.now at c.args.actions c.if-s-lt3.false (omega (arith, c.from-len.ensures, c.from_be_bytes.ensures))
+    (c.try_from.ensures ∙ ap spelt c.from.ensures) c.in_ok-tag.was c.in-Loop.is)

@@ -1,32 +1,23 @@
 -- `plan::read_plan_in` meets its contract: `read_operands` at the whole plan, one operand and no node yet, by the laws of `WholePlan`.
 -- Assumes nothing.
-use native.Mathlib.Omega.{arith}
-use Rattle.plan.proofs.WholePlan.{plan_over_limit, plan_refused, plan_accepted}
+use Rattle.std.proofs.Common.{ap, arith, Err}
+use Rattle.field.specs.Says.{number_of}
+use Rattle.plan.specs.inner.Numbers.{table_numbers}
+use Rattle.plan.proofs.NodeRows.{table_length}
+use Rattle.plan.proofs.WholePlan.{plan_over_limit, plan_read}
 use Rattle.plan.proofs.read_plan_in.Goals as goal
 
 pub returns-then-plan-gt-PLAN_LIMIT : goal.returns-then-plan-gt-PLAN_LIMIT
 returns-then-plan-gt-PLAN_LIMIT c =
     let a = c.args in
-    let law = plan_over_limit a.plan.now a.rows.now a.rows.now c.if-plan-gt-PLAN_LIMIT.true in
+    let law =
+    plan_over_limit a.plan.now (table_numbers a.rows.now) (table_numbers a.rows.now) (Err c.at.result) (ap number_of c.at.ensures.0, c.at.ensures.1)
+    c.if-plan-gt-PLAN_LIMIT.true in
     record { answer = law.0; rows = law.1 }
 
-pub read_operands-requires : goal.read_operands-requires
-read_operands-requires c =
-    let h = c.requires c.if-plan-gt-PLAN_LIMIT.false in
-    omega arith
-
-pub returns-in-Refused : goal.returns-in-Refused
-returns-in-Refused c =
+pub returns : goal.returns
+returns c =
     let o = c.read_operands in
-    let a = c.args in
-    let law = plan_refused a.plan.now a.rows.now o.new.rows c.if-plan-gt-PLAN_LIMIT.false o.result o.ensures.are
-    c.in-Refused.number c.in-Refused.carried c.in-Refused.is in
-    record { answer = law.0; rows = law.1 }
-
-pub returns-in-Read : goal.returns-in-Read
-returns-in-Read c =
-    let o = c.read_operands in
-    let a = c.args in
-    let law = plan_accepted a.plan.now a.rows.now o.new.rows c.if-plan-gt-PLAN_LIMIT.false o.result o.ensures.are
-    c.in-Read.nodes c.in-Read.actions c.in-Read.is o.ensures.fits (c.requires c.if-plan-gt-PLAN_LIMIT.false) in
+    let short = c.if-plan-gt-PLAN_LIMIT.false in
+    let law = plan_read c.args.plan.now (table_numbers c.args.rows.now) (table_numbers o.new.rows) o.result short (omega (arith, c.requires short, table_length c.args.rows.now)) o.ensures.fits o.ensures.are in
     record { answer = law.0; rows = law.1 }

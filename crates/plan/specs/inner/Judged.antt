@@ -1,31 +1,23 @@
 -- What the check for loops says, and what it knows after the nodes from k on.
-use Rattle.std.specs.Prelude.{ℕ, zero, suc, ◌+◌, ◌*◌, ◌≤◌, ◌<◌, ◌≡◌, List, [], ◌∷◌, ◌++◌, Bool, true, false, cond, get_or, eqb, leb}
-use Rattle.field.specs.Refusals.{body_not_exclusive}
-use Rattle.field.specs.Answer.{Answer, good, refused, ◌>>◌}
+use Rattle.std.specs.Prelude.{ℕ, zero, suc, ◌+◌, ◌*◌, ◌≤◌, ◌<◌, ◌≡◌, List, [], ◌∷◌, ◌++◌, Bool, true, false, cond, get_or, map, eqb, Option, None, Some}
+use Rattle.field.specs.Answer.{Answer, ◌>>◌}
 use Rattle.algebra.specs.Expr.{Expr}
 use Rattle.algebra.specs.Exclusive.{exclusive}
 use Rattle.plan.specs.Loops.{no_fault}
 use Rattle.plan.specs.inner.Table.{tag_at, after_at, Known}
-use Rattle.plan.specs.declared.exclusive.Loops.{Loops}
-use Rattle.plan.specs.declared.exclusive.Loops.TheVariants.{Fine, Faulty}
 
--- 01's number and what the answer carries, for each case.
-abbrev pub loops_say : Loops → Answer (Unit {0})
-loops_say Fine = good tt
-loops_say (Faulty at) = refused body_not_exclusive at
-
--- The same of an offset, or a number above every offset for none.
-abbrev pub offset_says : ℕ → Answer (Unit {0})
-offset_says at = cond (leb at 65535) (refused body_not_exclusive at) (good tt)
-
--- The first refusal of two answers.
-abbrev pub first_refusal : Answer (Unit {0}) → Answer (Unit {0}) → Answer (Unit {0})
-first_refusal a b = a >> b
+-- The offset of a fault, or none.
+abbrev pub fault_told : Option ℕ → List ℕ
+fault_told None = []
+fault_told (Some at) = at ∷ []
 
 -- 1 for an exclusive expression, 0 for another.
 abbrev pub bit : Bool → ℕ
 bit true = 1
 bit false = 0
+
+abbrev pub bits : List Bool → List ℕ
+bits bs = map bit bs
 
 abbrev pub exclusive_bit : Expr → List ℕ
 exclusive_bit E = bit (exclusive E) ∷ []

@@ -1,16 +1,15 @@
 -- 01, "Where an answer is an enum, the promises use a definition that gives this paper's number and values for each of its cases":
--- what the reader's answer says, and the rows that it leaves.
+-- what the reader's answer says of a plan that is read, and the rows that it leaves.
 use Rattle.std.specs.Prelude.{ℕ, ◌*◌, ◌≡◌, List, ◌++◌, drop}
 use Rattle.field.specs.Answer.{Answer, good, refused, ◌>>=◌}
 use Rattle.algebra.specs.Expr.{Expr}
 use Rattle.plan.specs.Reading.{read_plan}
 use Rattle.plan.specs.inner.Nodes.{Sizes, sizes_of, node_count, node_table}
-use Rattle.plan.specs.declared.PlanRead.{PlanRead}
-use Rattle.plan.specs.declared.PlanRead.TheVariants.{Refused, Read}
+use Rattle.plan.specs.declared.Sizes as code
 
-abbrev pub says : PlanRead → Answer Sizes
-says (Refused number carried) = refused number carried
-says (Read nodes actions) = good (record { nodes = nodes; actions = actions })
+-- The nodes and actions that are told.
+abbrev pub sizes_told : code.Sizes → Sizes
+sizes_told s = record { nodes = s.nodes; actions = s.actions }
 
 -- What is to be said: how many nodes and actions the plan's expression has, or the refusal.
 abbrev pub read_sizes : List ℕ → Answer Sizes

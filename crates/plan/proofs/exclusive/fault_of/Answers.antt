@@ -1,19 +1,17 @@
 -- `fault_of` meets its contract: each return answers one case of `fault_by`.
 -- Assumes nothing.
-use mathlib.Core.Path.{◌∙◌}
-use Rattle.plan.proofs.JudgedByTag.{an_offset, loop_faulty, loop_fine, no_loop}
+use Rattle.plan.proofs.JudgedByTag.{no_loop, loop_fine, loop_faulty}
 use Rattle.plan.proofs.exclusive.fault_of.Goals as goal
+use Rattle.plan.proofs.exclusive.fault_of.Goals.{else-is_loop-via-then-is_loop+else-not-is_judged_exclusive, else-is_loop-via-else-is_loop}
 
-pub returns-then-number_at-eq0 : goal.returns-then-number_at-eq0
-returns-then-number_at-eq0 c =
-    an_offset _ c.row_number-then-number_at-eq0.ensures.1 ∙ loop_faulty c.args.rows.now c.args.exclusive.now c.args.k c.row_number-tag.ensures.0
-    c.if-tag-eq-LOOP.true c.row_number.ensures.0 c.number_at.ensures c.if-number_at-eq0.true c.row_number-then-number_at-eq0.ensures.0
+pub returns-then-not-is_judged_exclusive : goal.returns-then-not-is_judged_exclusive
+returns-then-not-is_judged_exclusive c =
+    loop_faulty c.args.rows.now c.args.exclusive.now c.args.k _ c.requires.0 c.is_loop.ensures c.if-is_loop.true c.after.ensures.number
+    c.is_judged_exclusive.ensures c.if-not-is_judged_exclusive.true c.from.ensures
 
-pub returns-then-tag-eq-LOOP : goal.returns-then-tag-eq-LOOP
-returns-then-tag-eq-LOOP c =
-    loop_fine c.args.rows.now c.args.exclusive.now c.args.k c.row_number-tag.ensures.0
-    c.if-tag-eq-LOOP.true c.row_number.ensures.0 c.number_at.ensures c.if-number_at-eq0.false
-
-pub returns : goal.returns
-returns c =
-    no_loop c.args.rows.now c.args.exclusive.now c.args.k c.row_number-tag.ensures.0 c.if-tag-eq-LOOP.false
+pub returns-else-is_loop : goal.returns-else-is_loop
+returns-else-is_loop c =
+    elim c.else-is_loop.branch [
+      | else-is_loop-via-then-is_loop+else-not-is_judged_exclusive w ↦ loop_fine c.args.rows.now c.args.exclusive.now c.args.k _ c.requires.0 c.is_loop.ensures w.after.ensures.number w.is_judged_exclusive.ensures w.if-not-is_judged_exclusive.false
+      | else-is_loop-via-else-is_loop w ↦ no_loop c.args.rows.now c.args.exclusive.now c.args.k _ c.requires.0 c.is_loop.ensures w.if-is_loop.false
+    ]
