@@ -2,9 +2,10 @@
 -- True because the gathered ones are single actions, few enough for their room, and what is joined is what the definition joins.
 use Prim.Native.Nat.{ℕ, ◌+◌, ◌*◌, ◌≤◌}
 use native.Mathlib.Omega.{arith}
-use mathlib.Core.Path.{◌≡◌, sym, ◌∙◌, subst}
+use mathlib.Core.Path.{◌≡◌, sym, ◌∙◌, ap, subst}
 use mathlib.Core.List.{List, ◌++◌}
-use lib.ListN.{length, get_or}
+use lib.ListN.{length, get_or, take}
+use Rattle.std.specs.Prelude.{Option}
 use Rattle.algebra.specs.Expr.{Expr, actions, scope}
 use Rattle.algebra.specs.Scopes.{ScopesNamed}
 use Rattle.algebra.specs.Transitions.{Labelled, part_at_parallel, kept, joined, transitions}
@@ -20,24 +21,26 @@ node_byte : {rows : List ℕ} {count k i at a : ℕ} {E : Expr} → Node rows co
 unfolding nodes numbers
 node_byte n = n.rows_of 1 (omega arith)
 
-module _ (rows : List ℕ) (k start end : ℕ) (list : List ℕ) {name lefts rights so_far r : ℕ} {left right middle exit : List ℕ}
+module _ (rows : List ℕ) (k start end : ℕ) (list part : List ℕ) (size : ℕ) {name lefts rights so_far : ℕ} (r : Option ℕ) {left right : List ℕ} (middle exit : List ℕ)
     (byte : name ≡ get_or rows (6 * k + 1) 0)
-    (gathers : (ts : List Labelled) → Part list start end ts → length (firsts name ts) ≤ 256 → Found lefts left (firsts name ts))
-    (gathers-too : (ts : List Labelled) → Part list start end ts → length (firsts (name + 128) ts) ≤ 256 → Found rights right (firsts (name + 128) ts))
+    (cut : (ts : List Labelled) → Part list start end ts → Part part 0 size ts)
+    (gathers : (ts : List Labelled) → Part part 0 size ts → length (firsts name ts) ≤ 256 → Found lefts left (firsts name ts))
+    (gathers-too : (ts : List Labelled) → Part part 0 size ts → length (firsts (name + 128) ts) ≤ 256 → Found rights right (firsts (name + 128) ts))
     (keeps : (ts : List Labelled) → Part list start end ts → Held so_far start (kept name ts) list middle)
-    (joins : (count f at : ℕ) (E : Expr) (is js : List ℕ) → Node rows count (k + 1) f at E → Found lefts left is → Found rights right js → Lists r so_far 0 (pairs_of (part_at_parallel f E) is js) middle exit) where
+    (joins : (count f at : ℕ) (E : Expr) → Node rows count (k + 1) f at E → Lists r so_far 0 (pairs_of (part_at_parallel f E) (take lefts left) (take rights right)) middle exit) where
   closed_by_name : (count i at : ℕ) (E : Expr) → Node rows count k i at (scope name E) → 1 ≤ name → actions E ≤ 256 → Part list start end (transitions i E)
       → Lists r start (actions E) (transitions i (scope name E)) list exit
   unfolding transitions
   closed_by_name count i at E n named few p =
       let ts = transitions i E in
-      let lo = firsts_few name named name named i E in
-      let hi = firsts_few name named (name + 128) (omega arith) i E in
-      let both = joins count i (at + 4) E (firsts name ts) (firsts (name + 128) ts) (scope_operand rows count E n) (gathers ts p (omega arith)) (gathers-too ts p (omega arith)) in
+      let lo = gathers ts (cut ts p) (omega (arith, firsts_few name named name named i E)) in
+      let hi = gathers-too ts (cut ts p) (omega (arith, firsts_few name named (name + 128) (omega arith) i E)) in
+      let both = joins count i (at + 4) E (scope_operand rows count E n) in
+      let all : pairs_of (part_at_parallel i E) (take lefts left) (take rights right) ≡ joined i E name ts =
+      ap (λ q. pairs_of (part_at_parallel i E) q (take rights right)) lo.numbers ∙ ap (pairs_of (part_at_parallel i E) (firsts name ts)) hi.numbers ∙ sym (joined_pairs i E name ts) in
       let none : actions E + 0 ≡ actions E = omega arith in
       subst (λ few. Lists r start few (kept name ts ++ joined i E name ts) list exit) none
-      (subst (λ q. Lists r start (actions E + 0) (kept name ts ++ q) list exit) (sym (joined_pairs i E name ts))
-      (held_then (actions E) 0 (kept name ts) _ (keeps ts p) (kept_weight i name E) both))
+      (held_then r (actions E) 0 (kept name ts) _ list middle exit (keeps ts p) (kept_weight i name E) (subst (λ q. Lists r so_far 0 q middle exit) all both))
 
   pub closed : (count i at a : ℕ) (E : Expr) → Node rows count k i at (scope a E) → ScopesNamed (scope a E) → actions E ≤ 256 → Part list start end (transitions i E)
       → Lists r start (actions E) (transitions i (scope a E)) list exit
