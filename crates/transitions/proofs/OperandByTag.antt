@@ -8,7 +8,8 @@ use mathlib.Core.List.{List}
 use lib.ListN.{length, get_or-eq_default}
 use lib.Dec.{eqb, ltb}
 use borrow.Author.Tests.{lt-ltb, le-ltb, ne_eqb}
-use Rattle.std.specs.Prelude.{Result, Ok, Err, true, false, Bool, cond}
+use mathlib.Core.Logic.{◌⊎◌, inl, inr}
+use Rattle.std.specs.Prelude.{Result, Ok, Err, true, false, Bool}
 use Rattle.field.specs.declared.Fault.{Fault}
 use Rattle.plan.specs.declared.table.Tag.{Tag}
 use Rattle.plan.specs.declared.table.Tag.TheVariants.{Action, Sequence, Choice, Parallel, Loop, Scope}
@@ -32,6 +33,13 @@ spelt_of g e = ap spelt e ∙ spelt_number g
 
 pub same_tag : {g h : Tag} → ◌≡◌ {A = Result Tag Fault} (Ok g) (Ok h) → g ≡ h
 same_tag e = cc
+
+module _ {g : Tag} (several : (g ≡ Sequence) ⊎ ((g ≡ Choice) ⊎ ((g ≡ Parallel) ⊎ (g ≡ Loop)))) where
+  pub no_action : g ≡ Action → ⊥
+  no_action e = elim several [ inl p ↦ cc | inr (inl p) ↦ cc | inr (inr (inl p)) ↦ cc | inr (inr (inr p)) ↦ cc ]
+
+  pub no_scope : g ≡ Scope → ⊥
+  no_scope e = elim several [ inl p ↦ cc | inr (inl p) ↦ cc | inr (inr (inl p)) ↦ cc | inr (inr (inr p)) ↦ cc ]
 
 -- A number that is told for a tag is the tag's.
 pub number_spelt : (n : ℕ) (g : Tag) → spelt n ≡ Ok g → n ≡ tag_number g
@@ -74,17 +82,14 @@ module _ (rows : List ℕ) (k i : ℕ) {second first : ℕ} (s : second ≡ afte
   first_is = ap (first_at rows) (sym s) ∙ sym f
 
   -- An operator with two operands.
-  module _ (g : Tag) (told : spelt (tag_at rows k) ≡ Ok g) (some : g ≡ Action → ⊥) (no-scope : g ≡ Scope → ⊥) (no-loop : g ≡ Loop → ⊥) where
-    two_operands : (g : Tag) → (g ≡ Action → ⊥) → (g ≡ Scope → ⊥) → (g ≡ Loop → ⊥) → by_tag (Ok g) rows k i ≡ one_of rows (k + 1) (after_at rows (k + 1)) i
-    two_operands Action p q r = absurd (p refl)
-    two_operands Sequence p q r = refl
-    two_operands Choice p q r = refl
-    two_operands Parallel p q r = refl
-    two_operands Loop p q r = absurd (r refl)
-    two_operands Scope p q r = absurd (q refl)
-
+  module _ (g : Tag) (told : spelt (tag_at rows k) ≡ Ok g) (two : (g ≡ Sequence) ⊎ ((g ≡ Choice) ⊎ (g ≡ Parallel))) where
     one_operand : operand_by rows k i ≡ one_of rows (k + 1) (after_at rows (k + 1)) i
-    one_operand = by_its_tag rows k i told ∙ two_operands g some no-scope no-loop
+    one_operand = by_its_tag rows k i told ∙ go two
+      where
+        go : (g ≡ Sequence) ⊎ ((g ≡ Choice) ⊎ (g ≡ Parallel)) → by_tag (Ok g) rows k i ≡ one_of rows (k + 1) (after_at rows (k + 1)) i
+        go (inl e) = ap (λ h. by_tag (Ok h) rows k i) e
+        go (inr (inl e)) = ap (λ h. by_tag (Ok h) rows k i) e
+        go (inr (inr e)) = ap (λ h. by_tag (Ok h) rows k i) e
 
     pub first_operand : i < first → k + 1 ≡ operand_by rows k i
     first_operand h = sym (one_operand ∙ rw (first_is, lt-ltb i first h) refl)

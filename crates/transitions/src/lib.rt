@@ -5,7 +5,7 @@
 pub mod parting;
 pub mod scope;
 
-ghost use Rattle.std.specs.Prelude.{◌≡◌, List, ℕ, ◌+◌, ◌*◌, ◌≤◌, ◌<◌, T, length, IfSome};
+ghost use Rattle.std.specs.Prelude.{◌≡◌, List, ℕ, ◌+◌, ◌*◌, ◌≤◌, ◌<◌, T, length, slice_set, IfSome, IsNone};
 ghost use Rattle.algebra.specs.Expr.{Expr, actions, scope};
 ghost use Rattle.algebra.specs.Scopes.{ScopesNamed};
 ghost use Rattle.algebra.specs.Transitions.{transitions};
@@ -33,6 +33,19 @@ pub struct Transition {
     pub second: u16,
 }
 
+// Adds a transition behind the first n of the list: how many it then holds, or none where it would hold more than the most.
+fn add(list: &mut [Transition], n: usize, transition: Transition) -> Option<usize>
+    requires { most ≤ length list.old }
+    ensures full { IsNone result → most ≤ n }
+    ensures added { IfSome result (λ m. (m ≡ n + 1) × (m ≤ most) × (list.new ≡ slice_set list.old n transition)) }
+{
+    if n >= MOST {
+        return None;
+    }
+    list[n] = transition;
+    Some(n + 1)
+}
+
 // The transitions of the operands from node k to node `end`, behind the first n of the list: how many the list then holds, or none where
 // it would hold more than the most. A field's operands stand behind its own node, so the walk just goes on; only a scope, which takes some
 // away, is listed by itself.
@@ -53,20 +66,18 @@ fn list_nodes(
     while at < end {
         let row = rows[at];
         let Ok(tag) = row.tag() else {
+            // No plan has such a row.
             at += 1;
             continue;
         };
         match tag {
             Tag::Action => {
-                if so_far >= MOST {
-                    return None;
-                }
-                list[so_far] = Transition {
+                let single = Transition {
                     label: row.byte,
                     first: row.first,
                     second: NO_SECOND,
                 };
-                so_far += 1;
+                so_far = add(list, so_far, single)?;
                 at += 1;
             }
             Tag::Scope => {
@@ -78,7 +89,8 @@ fn list_nodes(
                 so_far = list_scope(rows, at, after, list, so_far)?;
                 at = after;
             }
-            _ => at += 1,
+            // Its operands' nodes follow its own.
+            Tag::Sequence | Tag::Choice | Tag::Parallel | Tag::Loop => at += 1,
         }
     }
     Some(so_far)

@@ -42,7 +42,7 @@ fn operand_of(rows: &[Row], k: usize, i: usize) -> usize
                 third
             }
         }
-        _ => {
+        Tag::Sequence | Tag::Choice | Tag::Parallel => {
             let second = after(rows, k + 1);
             if i < first(rows, second) {
                 k + 1
@@ -99,7 +99,7 @@ pub fn part_at(rows: &[Row], k: usize, i: usize, j: usize, last: Parting) -> Par
     requires { (k ≤ 65535) × (length rows.now ≤ 1366) × (j ≤ 65535) × Parts (table_numbers rows.now) k i last }
     ensures { (result.from ≤ j) × (j < result.until) × Parts (table_numbers rows.now) k i result }
 {
-    if last.from <= j && j < last.until {
+    if (last.from..last.until).contains(&j) {
         return last;
     }
     part_from(rows, k, i, j, ALL)

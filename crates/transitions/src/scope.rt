@@ -9,7 +9,7 @@ ghost use Rattle.plan.specs.inner.Numbers.{table_numbers};
 ghost use Rattle.transitions.specs.inner.Numbers.{most, list_numbers};
 ghost use Rattle.transitions.specs.inner.Listing.{Part, Found, Held, firsts, Lists, pairs_with, pairs_of};
 
-use super::{MOST, Transition};
+use super::{Transition, add};
 use crate::parting::{Parting, part_at};
 use field::ACTION_LIMIT;
 use plan::table::{Row, row_at};
@@ -65,15 +65,12 @@ fn join_one(
     for &j in others {
         parting = part_at(rows, k, usize::from(i), usize::from(j), parting);
         if parting.apart {
-            if so_far >= MOST {
-                return None;
-            }
-            list[so_far] = Transition {
+            let joined = Transition {
                 label: 0,
                 first: i,
                 second: j,
             };
-            so_far += 1;
+            so_far = add(list, so_far, joined)?;
         }
     }
     Some(so_far)

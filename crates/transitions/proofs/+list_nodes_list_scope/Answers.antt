@@ -8,7 +8,7 @@ use Rattle.plan.proofs.NodeRows.{tag_of_row, byte_of_row, after_of_row, first_of
 use Rattle.transitions.specs.inner.Numbers.{list_numbers}
 use Rattle.transitions.specs.inner.Listing.{all_actions, all_transitions}
 use Rattle.transitions.proofs.FlatNumbers.{list_length, transition_stored}
-use Rattle.transitions.proofs.OperandByTag.{spelt_of, same_tag, number_spelt}
+use Rattle.transitions.proofs.OperandByTag.{spelt_of, same_tag, no_action, no_scope, number_spelt}
 use Rattle.transitions.proofs.NodeTurns.{nothing_listed, all_listed, no_room_listed, action_listed, operator_passed, scope_inside, scope_listed, scope_over}
 use Rattle.transitions.proofs.WholeLists.{operand_over, scope_closed}
 use Rattle.transitions.proofs.+list_nodes_list_scope.Goals as goal
@@ -17,31 +17,34 @@ use Rattle.transitions.proofs.+list_nodes_list_scope.Goals.{list_nodes-then-afte
 abbrev none : Row
 none = record { tag = 0; byte = 0; members = 0; after = 0; first = 0; at = 0 }
 
-pub list_nodes-returns-then-so_far-ge-MOST-clause-lists : goal.list_nodes-returns-then-so_far-ge-MOST-clause-lists
-list_nodes-returns-then-so_far-ge-MOST-clause-lists t c =
+-- An action.
+pub list_nodes-returns-in_err-so_far-in-Action-clause-lists : goal.list_nodes-returns-in_err-so_far-in-Action-clause-lists
+list_nodes-returns-in_err-so_far-in-Action-clause-lists t c =
     let a = c.args in
     let l = c.loop-at in
     let rows = table_numbers a.rows.now in
     λ count i Es o named few.
     let g = l.invariant.3 count i Es o named few in
-    no_room_listed rows count a.end (list_numbers a.list.now) a.n (all_actions Es) (all_transitions i Es) l.at (list_numbers l.list) l.so_far c.loop-at-test.true
-    (sym (tag_of_row a.rows.now l.at none (omega arith))) g.0 g.1 g.2 c.if-so_far-ge-MOST.true
+    rw c.from_residual.ensures
+    (no_room_listed rows count a.end (list_numbers a.list.now) a.n (all_actions Es) (all_transitions i Es) l.at (list_numbers l.list) l.so_far c.loop-at-test.true
+    (sym (tag_of_row a.rows.now l.at none (omega arith))) g.0 g.1 g.2 (c.in_err-so_far-in-Action.ensures.full refl))
 
--- An action.
 pub list_nodes-loop-at-preserved-in-Action : goal.list_nodes-loop-at-preserved-in-Action
 list_nodes-loop-at-preserved-in-Action t c =
     let a = c.args in
     let l = c.loop-at in
     let rows = table_numbers a.rows.now in
-    let here : l.at < length a.rows.now = omega arith in (
+    let here : l.at < length a.rows.now = omega arith in
+    let e = c.in_ok-so_far-in-Action.ensures.added in (
       omega arith,
-      omega arith,
-      omega arith,
+      omega (arith, e),
+      omega (arith, e),
       λ count i Es o named few.
           let g = l.invariant.3 count i Es o named few in
-          action_listed rows count a.end (list_numbers a.list.now) a.n (all_actions Es) (all_transitions i Es) l.at (list_numbers l.list) l.so_far c.loop-at-test.true
+          rw (e.0, e.2)
+          (action_listed rows count a.end (list_numbers a.list.now) a.n (all_actions Es) (all_transitions i Es) l.at (list_numbers l.list) l.so_far c.loop-at-test.true
           (sym (tag_of_row a.rows.now l.at none here)) g.0 g.1 g.2 (number_spelt _ Action (sym c.tag.ensures ∙ c.in-Ok.is ∙ ap Ok c.in-Action.is))
-          (sym (byte_of_row a.rows.now l.at none here)) (sym (first_of_row a.rows.now l.at none here)) (transition_stored l.list l.so_far _ (omega (arith, l.auto.list))),
+          (sym (byte_of_row a.rows.now l.at none here)) (sym (first_of_row a.rows.now l.at none here)) (transition_stored l.list l.so_far _ (omega (arith, l.auto.list, e)))),
     )
 
 -- A scope.
@@ -69,7 +72,7 @@ list_nodes-returns-in_err-so_far-in-Scope-clause-lists t c =
     let here : l.at < length a.rows.now = omega arith in
     λ count i Es o named few.
     let g = l.invariant.3 count i Es o named few in
-    rw c.from_residual.ensures
+    rw c.from_residual-in_err-so_far-in-Scope.ensures
     (scope_over rows count a.end (list_numbers a.list.now) a.n (all_actions Es) (all_transitions i Es) l.at (list_numbers l.list) l.so_far c.loop-at-test.true
     (sym (tag_of_row a.rows.now l.at none here)) (c.from-after.ensures ∙ sym (after_of_row a.rows.now l.at none here)) g.0 g.1 g.2
     (number_spelt _ Scope (sym c.tag.ensures ∙ c.in-Ok.is ∙ ap Ok c.in-Scope.is)) (list_numbers c.list_scope.new.list) c.in_err-so_far-in-Scope.ensures.lists)
@@ -105,8 +108,8 @@ list_nodes-loop-at-preserved t c =
           let g = l.invariant.3 count i Es o named few in
           operator_passed rows count a.end (list_numbers a.list.now) a.n (all_actions Es) (all_transitions i Es) l.at (list_numbers l.list) l.so_far c.loop-at-test.true
           (sym (tag_of_row a.rows.now l.at none here)) g.0 g.1 g.2
-          (λ e. c.in_default-tag.not-Action (same_tag (sym c.in-Ok.is ∙ c.tag.ensures ∙ spelt_of Action e)))
-          (λ e. c.in_default-tag.not-Scope (same_tag (sym c.in-Ok.is ∙ c.tag.ensures ∙ spelt_of Scope e))),
+          (λ e. no_action c.in-Sequence.is (same_tag (sym c.in-Ok.is ∙ c.tag.ensures ∙ spelt_of Action e)))
+          (λ e. no_scope c.in-Sequence.is (same_tag (sym c.in-Ok.is ∙ c.tag.ensures ∙ spelt_of Scope e))),
     )
 
 -- A row that is no plan's.

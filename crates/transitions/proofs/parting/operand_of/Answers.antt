@@ -57,9 +57,8 @@ returns-else-i-first-2-clause-operand c =
 pub returns-then-i-first-3-clause-operand : goal.returns-then-i-first-3-clause-operand
 returns-then-i-first-3-clause-operand c =
     let rows = table_numbers c.args.rows.now in
-    let no = c.in_default-tag in
-    first_operand rows c.args.k c.args.i c.after-second-in_default-tag.ensures.number c.first-in_default-tag.ensures.number c.in-Ok.tag
-    (tag_told rows c.args.k c.row_at.ensures c.tag.ensures ∙ c.in-Ok.is) no.not-Action no.not-Scope no.not-Loop c.if-i-first-3.true
+    first_operand rows c.args.k c.args.i c.after-second-in-Sequence.ensures.number c.first-in-Sequence.ensures.number c.in-Ok.tag
+    (tag_told rows c.args.k c.row_at.ensures c.tag.ensures ∙ c.in-Ok.is) c.in-Sequence.is c.if-i-first-3.true
 
 pub returns-then-i-first-3-clause-fits : goal.returns-then-i-first-3-clause-fits
 returns-then-i-first-3-clause-fits c =
@@ -69,6 +68,5 @@ returns-then-i-first-3-clause-fits c =
 pub returns-else-i-first-3-clause-operand : goal.returns-else-i-first-3-clause-operand
 returns-else-i-first-3-clause-operand c =
     let rows = table_numbers c.args.rows.now in
-    let no = c.in_default-tag in
-    second_operand rows c.args.k c.args.i c.after-second-in_default-tag.ensures.number c.first-in_default-tag.ensures.number c.in-Ok.tag
-    (tag_told rows c.args.k c.row_at.ensures c.tag.ensures ∙ c.in-Ok.is) no.not-Action no.not-Scope no.not-Loop c.if-i-first-3.false
+    second_operand rows c.args.k c.args.i c.after-second-in-Sequence.ensures.number c.first-in-Sequence.ensures.number c.in-Ok.tag
+    (tag_told rows c.args.k c.row_at.ensures c.tag.ensures ∙ c.in-Ok.is) c.in-Sequence.is c.if-i-first-3.false
