@@ -103,7 +103,7 @@ list_drop (suc n) (x ∷ list) =
     let e : 3 * suc n ≡ suc (suc (suc (3 * n))) = omega arith in
     list_drop n list ∙ ap (λ i. drop i (list_numbers (x ∷ list))) (sym e)
 
-list_take : (n : ℕ) (list : List Transition) → list_numbers (take n list) ≡ take (3 * n) (list_numbers list)
+pub list_take : (n : ℕ) (list : List Transition) → list_numbers (take n list) ≡ take (3 * n) (list_numbers list)
 list_take zero list = refl
 list_take (suc n) [] = sym (take-nil (3 * suc n))
 list_take (suc n) (x ∷ list) =

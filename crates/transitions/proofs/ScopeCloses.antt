@@ -1,10 +1,13 @@
 -- The four steps that close a scope leave the transitions of the scope: the labelled ones are gathered, the rest is kept, the pairs are joined.
 -- True because the gathered ones are single actions, few enough for their room, and what is joined is what the definition joins.
-use Prim.Native.Nat.{ℕ, ◌+◌, ◌*◌, ◌≤◌}
+use Prim.Native.Nat.{ℕ, ◌+◌, ◌*◌, ◌-◌, ◌≤◌}
 use native.Mathlib.Omega.{arith}
 use mathlib.Core.Path.{◌≡◌, sym, ◌∙◌, ap, subst}
 use mathlib.Core.List.{List, ◌++◌}
-use lib.ListN.{length, get_or, take}
+use lib.ListN.{length, get_or, take, drop, length-append, length-drop}
+use lib.Seq.{take-append-add, length-take-le}
+use Rattle.std.proofs.lemmas.Grind.{flat_map-append}
+use Rattle.std.proofs.lemmas.List.{take-append-le}
 use Rattle.std.specs.Prelude.{Option}
 use Rattle.algebra.specs.Expr.{Expr, actions, scope}
 use Rattle.algebra.specs.Scopes.{ScopesNamed}
@@ -12,10 +15,42 @@ use Rattle.algebra.specs.Transitions.{Labelled, part_at_parallel, kept, joined, 
 use Rattle.plan.specs.inner.Nodes.{numbers, nodes}
 use Rattle.plan.specs.inner.Table.{Node}
 use Rattle.plan.proofs.NodeTable.{scope_operand}
+use Rattle.transitions.specs.declared.Transition.{Transition}
+use Rattle.transitions.specs.inner.Numbers.{transition_numbers, list_numbers}
 use Rattle.transitions.specs.inner.Listing.{Part, Found, Held, Lists, firsts, pairs_of}
+use Rattle.transitions.proofs.FlatNumbers.{list_length, list_take}
 use Rattle.transitions.proofs.JoinedPairs.{joined_pairs}
 use Rattle.transitions.proofs.Weights.{kept_weight, firsts_few}
 use Rattle.transitions.proofs.StillToCome.{held_then}
+
+-- What is kept in its place of a list is held there: what stands before it and behind it is as it was.
+pub kept_in_place : (list new : List Transition) (start end m : ℕ) (ts : List Labelled) → start ≤ end → end ≤ length list → length new ≡ end - start → m ≤ length new
+    → Held m 0 ts (list_numbers (take (end - start) (drop start list))) (list_numbers new)
+    → Held (start + m) start ts (list_numbers list) (list_numbers (take start list ++ (new ++ drop (end - start) (drop start list))))
+kept_in_place list new start end m ts lo hi long fits h = record {
+  count = omega (arith, h.count);
+  numbers =
+      ap (take (3 * (start + m))) split
+      ∙ ap (λ i. take i (front ++ (list_numbers new ++ list_numbers rest))) place
+      ∙ take-append-add front (list_numbers new ++ list_numbers rest) (3 * m)
+      ∙ ap (λ q. front ++ q) (take-append-le (3 * m) (list_numbers new) (list_numbers rest) (omega (arith, list_length new)) ∙ h.numbers);
+  long = list_length (take start list ++ (new ++ rest)) ∙ ap (λ i. 3 * i) (simp (length-append, length-take-le start list (omega arith), length-drop) (omega arith)) ∙ sym (list_length list);
+}
+  where
+    front : List ℕ
+    front = take (3 * start) (list_numbers list)
+
+    rest : List Transition
+    rest = drop (end - start) (drop start list)
+
+    split : list_numbers (take start list ++ (new ++ rest)) ≡ front ++ (list_numbers new ++ list_numbers rest)
+    split =
+        flat_map-append transition_numbers (take start list) (new ++ rest)
+        ∙ ap (λ q. list_numbers (take start list) ++ q) (flat_map-append transition_numbers new rest)
+        ∙ ap (λ q. q ++ (list_numbers new ++ list_numbers rest)) (list_take start list)
+
+    place : 3 * (start + m) ≡ length front + 3 * m
+    place = omega (arith, length-take-le (3 * start) (list_numbers list) (omega (arith, list_length list)))
 
 node_byte : {rows : List ℕ} {count k i at a : ℕ} {E : Expr} → Node rows count k i at (scope a E) → get_or rows (6 * k + 1) 0 ≡ a
 unfolding nodes numbers

@@ -29,18 +29,18 @@ fn gather(part: &[Transition], label: usize, found: &mut [u16; ACTION_LIMIT]) ->
     count
 }
 
-// Takes the transitions labelled with a name or its conjugate out of a part of the list, and keeps the rest in order.
-fn keep(list: &mut [Transition], start: usize, end: usize, name: usize) -> usize
-    requires { (start ≤ end) × (end ≤ length list.old) × (name ≤ 65535) }
-    ensures fits { (start ≤ result) × (result ≤ end) }
-    ensures keeps { (ts : List Labelled) → Part (list_numbers list.old) start end ts → Held result start (kept name ts) (list_numbers list.old) (list_numbers list.new) }
+// Takes the transitions labelled with a name or its conjugate out of a part of the list, and keeps the rest in order: how many.
+fn keep(part: &mut [Transition], name: usize) -> usize
+    requires { name ≤ 65535 }
+    ensures fits { result ≤ length part.old }
+    ensures keeps { (ts : List Labelled) → Part (list_numbers part.old) 0 (length part.old) ts → Held result 0 (kept name ts) (list_numbers part.old) (list_numbers part.new) }
 {
-    let mut so_far = start;
-    for t in start..end {
-        let transition = list[t];
+    let mut so_far = 0;
+    for t in 0..part.len() {
+        let transition = part[t];
         let label = usize::from(transition.label);
         if label != name && label != name + 128 {
-            list[so_far] = transition;
+            part[so_far] = transition;
             so_far += 1;
         }
     }
@@ -114,6 +114,13 @@ pub fn close(
     let lefts = gather(&list[start..end], name, &mut left);
     let mut right = [0; ACTION_LIMIT];
     let rights = gather(&list[start..end], name + 128, &mut right);
-    let kept = keep(list, start, end, name);
-    join(rows, k + 1, &left[..lefts], &right[..rights], list, kept)
+    let kept = keep(&mut list[start..end], name);
+    join(
+        rows,
+        k + 1,
+        &left[..lefts],
+        &right[..rights],
+        list,
+        start + kept,
+    )
 }
