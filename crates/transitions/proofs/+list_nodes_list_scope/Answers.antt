@@ -1,6 +1,6 @@
 -- `list_nodes` and `list_scope` meet their contracts, the nodes left falling. The loop's invariant: what is held and what the fields that are
 -- left list are all transitions. Every return and turn is one law on plain values. Assumes nothing.
-use Rattle.std.proofs.Common.{◌≡◌, ℕ, ◌<◌, List, length, slice_index_or, Ok, arith, rules, refl, sym, ap, ◌∙◌}
+use Rattle.std.proofs.Common.{◌<◌, length, Ok, arith, rules, refl, sym, ap, ◌∙◌}
 use Rattle.plan.specs.declared.table.Row.{Row}
 use Rattle.plan.specs.declared.table.Tag.TheVariants.{Action, Scope}
 use Rattle.plan.specs.inner.Numbers.{table_numbers}
@@ -9,7 +9,7 @@ use Rattle.transitions.specs.inner.Numbers.{list_numbers}
 use Rattle.transitions.specs.inner.Listing.{all_actions, all_transitions}
 use Rattle.transitions.proofs.FlatNumbers.{list_length, transition_stored}
 use Rattle.transitions.proofs.OperandByTag.{spelt_of, same_tag, no_action, no_scope, number_spelt}
-use Rattle.transitions.proofs.NodeTurns.{nothing_listed, all_listed, no_room_listed, action_listed, operator_passed, scope_inside, scope_listed, scope_over}
+use Rattle.transitions.proofs.NodeTurns.{all_listed, no_room_listed, action_listed, operator_passed, scope_inside, scope_listed, scope_over}
 use Rattle.transitions.proofs.WholeLists.{operand_over, scope_closed}
 use Rattle.transitions.proofs.+list_nodes_list_scope.Goals as goal
 use Rattle.transitions.proofs.+list_nodes_list_scope.Goals.{list_nodes-then-after-at-via-then-after-at, list_nodes-then-after-at-via-else-after-at+then-end-after}

@@ -1,6 +1,6 @@
 -- `list_transitions` meets its contract: the plan is listed as the one operand of the table.
 -- Assumes nothing.
-use Rattle.std.proofs.Common.{◌≡◌, length, arith}
+use Rattle.std.proofs.Common.{length}
 use Rattle.plan.specs.inner.Numbers.{table_numbers}
 use Rattle.plan.proofs.Scopes.{named_scopes}
 use Rattle.transitions.specs.inner.Numbers.{list_numbers}

@@ -1,7 +1,6 @@
 -- `operand_of` meets its contract: each return answers one case of `by_tag`.
 -- Assumes nothing.
-use Rattle.std.proofs.Common.{◌≡◌, ◌∙◌, Ok, arith, sym, ap}
-use Rattle.plan.specs.declared.table.Tag.TheVariants.{Action, Scope, Loop}
+use Rattle.std.proofs.Common.{◌∙◌, Ok, arith, sym, ap}
 use Rattle.plan.specs.inner.Numbers.{table_numbers}
 use Rattle.plan.proofs.NodeRows.{table_length}
 use Rattle.transitions.proofs.OperandByTag.{tag_told, by_its_tag, tagged_within, first_operand, second_operand, begin_operand, body_operand, end_operand}

@@ -1,6 +1,6 @@
 -- `gather` meets its contract. The loop's invariant: what is found and what is to come are the first actions of all with the label.
 -- Assumes nothing.
-use Rattle.std.proofs.Common.{◌≡◌, length, arith, sym, ap, ◌∙◌}
+use Rattle.std.proofs.Common.{length, arith, sym, ap, ◌∙◌}
 use lib.ListN.{length-set}
 use Rattle.transitions.specs.inner.Numbers.{list_numbers}
 use Rattle.transitions.proofs.FlatNumbers.{label_of, first_of}

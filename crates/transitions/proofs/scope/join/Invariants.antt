@@ -1,5 +1,4 @@
 use Prim.Native.Nat.{ℕ, ◌≤◌}
-use mathlib.Core.List.{List}
 use Rattle.algebra.specs.Expr.{Expr}
 use Rattle.algebra.specs.Transitions.{part_at_parallel}
 use Rattle.plan.specs.inner.Numbers.{table_numbers}

@@ -1,6 +1,6 @@
 -- `join_one` meets its contract. The loop's invariant: what is held and what is to come are all pairs of the action, and what was told last
 -- of the parting of actions is true. Assumes nothing.
-use Rattle.std.proofs.Common.{◌≡◌, Bool, arith, rules, refl, sym, subst}
+use Rattle.std.proofs.Common.{arith, rules, refl, sym, subst}
 use Rattle.algebra.specs.Transitions.{part_at_parallel}
 use Rattle.plan.specs.inner.Numbers.{table_numbers}
 use Rattle.transitions.specs.inner.Numbers.{list_numbers}

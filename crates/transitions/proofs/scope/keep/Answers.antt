@@ -1,6 +1,6 @@
 -- `keep` meets its contract. The loop's invariant: what is held and what is to come are all that the scope keeps.
 -- Assumes nothing.
-use Rattle.std.proofs.Common.{◌<◌, length, arith, refl, sym, ◌∙◌}
+use Rattle.std.proofs.Common.{◌<◌, length, arith, sym, ◌∙◌}
 use Rattle.transitions.specs.inner.Numbers.{list_numbers}
 use Rattle.transitions.proofs.FlatNumbers.{label_of, first_of, second_of, transition_stored}
 use Rattle.transitions.proofs.ScopeTurns.{passes_neither, stops_name, stops_conjugate, one_kept, none_more_kept, all_kept}
