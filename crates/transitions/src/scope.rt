@@ -14,7 +14,8 @@ use crate::parting::{Parting, part_at};
 use field::ACTION_LIMIT;
 use plan::table::{Row, row_at};
 
-// The first actions of the transitions with a label, in their order, and how many they are. They are single actions, so 256 places do.
+// The first actions of the transitions with a label, in their order, and how many they are. They are single actions, so the limit of a plan
+// is room enough.
 fn gather(part: &[Transition], label: usize, found: &mut [u16; ACTION_LIMIT]) -> usize
     ensures fits { result ≤ 256 }
     ensures finds { (ts : List Labelled) → Part (list_numbers part.now) 0 (length part.now) ts → length (firsts label ts) ≤ 256 → Found result found.new (firsts label ts) }
@@ -29,7 +30,8 @@ fn gather(part: &[Transition], label: usize, found: &mut [u16; ACTION_LIMIT]) ->
     count
 }
 
-// Takes the transitions labelled with a name or its conjugate out of a part of the list, and keeps the rest in order: how many.
+// Takes the transitions labelled with a name or its conjugate out of a part of the list, and keeps the rest in order: how many. It works in
+// place, so the part is read by number.
 fn keep(part: &mut [Transition], name: usize) -> usize
     requires { name ≤ 65535 }
     ensures fits { result ≤ length part.old }
