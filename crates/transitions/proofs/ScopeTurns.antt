@@ -16,7 +16,7 @@ use Rattle.plan.proofs.Stands.{stands_kept}
 use Rattle.transitions.specs.inner.Numbers.{flat}
 use Rattle.transitions.specs.inner.Listing.{Part, Stored, Found, Held, firsts}
 use Rattle.transitions.proofs.FlatNumbers.{label_at, first_at, second_at, part_behind, part_over}
-use Rattle.transitions.proofs.StillToCome.{Left, nothing_yet, all_held, one_stored}
+use Rattle.transitions.proofs.StillToCome.{Left, all_held, one_stored}
 
 -- ---- the labelled ones are gathered
 
@@ -38,9 +38,6 @@ pub record Gathering (list : List ℕ) (t end label : ℕ) (found : List ℕ) (c
   pub part : Part list t end left
   pub numbers : take count found ++ firsts label left ≡ all
   pub counted : count + length (firsts label left) ≡ length all
-
-pub none_gathered : (list found : List ℕ) (start end label : ℕ) (ts : List Labelled) → Part list start end ts → Gathering list start end label found 0 (firsts label ts)
-none_gathered list found start end label ts p = record { left = ts; part = p; numbers = refl; counted = omega arith }
 
 module _ (list found : List ℕ) (t end label count : ℕ) (more : t < end) {all : List ℕ} where
   pub one_gathered : {x : ℕ} {exit : List ℕ} → length found ≡ 256 → length all ≤ 256 → get_or list (3 * t) 0 ≡ label → x ≡ get_or list (3 * t + 1) 0 → exit ≡ set found count x
@@ -65,6 +62,14 @@ module _ (list found : List ℕ) (t end label count : ℕ) (more : t < end) {all
                 ∙ n;
             counted = omega arith;
           }
+
+  -- There is room for one more.
+  pub room_left : get_or list (3 * t) 0 ≡ label → Gathering list t end label found count all → count < length all
+  room_left e g = go g.left g.part g.counted
+    where
+      go : (us : List Labelled) → Part list t end us → count + length (firsts label us) ≡ length all → count < length all
+      go [] p c = absurd (omega (arith, p.count))
+      go (u ∷ us) p c = omega (arith, ap length (firsts_with label u us (sym (label_at u us p) ∙ e)))
 
   pub none_more_gathered : (get_or list (3 * t) 0 ≡ label → ⊥) → Gathering list t end label found count all → Gathering list (t + 1) end label found count all
   none_more_gathered e g = go g.left g.part g.numbers g.counted
@@ -101,12 +106,19 @@ pub record Keeping (entry : List ℕ) (start : ℕ) (list : List ℕ) (t end nam
   pub part : Part list t end left
   pub held : Left entry start list so_far (kept name ts) (kept name left)
 
-pub none_kept : (entry : List ℕ) (start end name : ℕ) (ts : List Labelled) → Part entry start end ts → Keeping entry start entry start end name start ts
-none_kept entry start end name ts p = record { left = ts; part = p; held = nothing_yet entry start (kept name ts) }
-
 -- What the code asks of a label.
 abbrev pub passes : ℕ → ℕ → Bool
 passes name l = not (eqb l name) && not (eqb l (name + 128))
+
+module _ (name l : ℕ) where
+  pub passes_neither : (l ≡ name → ⊥) → (l ≡ name + 128 → ⊥) → passes name l ≡ true
+  passes_neither p q = rw (ne_eqb l name p, ne_eqb l (name + 128) q) refl
+
+  pub stops_name : l ≡ name → passes name l ≡ false
+  stops_name e = rw (eq-eqb l name e) refl
+
+  pub stops_conjugate : (l ≡ name → ⊥) → l ≡ name + 128 → passes name l ≡ false
+  stops_conjugate p e = rw (ne_eqb l name p, eq-eqb l (name + 128) e) refl
 
 module _ (entry : List ℕ) (start : ℕ) (list : List ℕ) (t end name so_far : ℕ) (more : t < end) {ts : List Labelled} where
   pub one_kept : {l a b c : ℕ} {exit : List ℕ} → so_far ≤ t → Stored so_far a b c list exit → l ≡ a → a ≡ get_or list (3 * t) 0 → b ≡ get_or list (3 * t + 1) 0 → c ≡ get_or list (3 * t + 2) 0
