@@ -1,11 +1,12 @@
 -- One turn of counting, on plain values, and what the table holds after the last: the counts of every node in their order.
 -- A node is counted from operands that are counted, and its three numbers are written where no later node's stand.
-use Prim.Native.Nat.{ℕ, zero, suc, ◌+◌, ◌*◌, ◌≤◌, ◌<◌}
+use Prim.Native.Nat.{ℕ, zero, suc, ◌+◌, ◌-◌, ◌*◌, ◌≤◌, ◌<◌}
 use native.Mathlib.Omega.{arith}
+use native.Mathlib.Nat.{add-zero}
 use mathlib.Core.Path.{◌≡◌, refl, sym, ◌∙◌, ap, ap₂, subst}
 use mathlib.Core.List.{List, [], ◌∷◌, ◌++◌}
 use lib.ListN.{length, get_or, set, drop, length-set}
-use lib.Seq.{get_or-set_same, get_or-set_other, lt-length-set}
+use lib.Seq.{sets, length-sets, get_or-set_same, get_or-set_other}
 use Rattle.algebra.specs.Expr.{Expr, action, sequence, choice, parallel, loop, scope}
 use Rattle.plan.specs.inner.Nodes.{node_count}
 use Rattle.plan.specs.inner.Table.{Table, Stands, Node, after_at, Known}
@@ -14,9 +15,10 @@ use Rattle.plan.proofs.NodeTable.{node_says, sequence_operands, choice_operands,
 use Rattle.plan.proofs.NodeValues.{table_node, none_known, one_known, filled}
 use Rattle.boxes.specs.Counts.{entry_count, internal_count, exit_count}
 use Rattle.boxes.specs.inner.NodeCounts.{box_counts, node_counts}
-use Rattle.boxes.specs.inner.Counted.{counts, counts_at, sequence_counts, choice_counts, parallel_counts, loop_counts, counts_by, stored, Counted}
+use Rattle.boxes.specs.inner.Counted.{counts, counts_at, sequence_counts, choice_counts, parallel_counts, loop_counts, counts_by, row_numbers, counts_numbers, Counted}
 use Rattle.boxes.specs.declared.counts.Counts.{Counts}
 use Rattle.boxes.proofs.CountedByTag.{same_counts}
+use Rattle.boxes.proofs.CountRows.{counts_length, counts_stored}
 
 -- The counts of an expression.
 abbrev expr_counts : Expr → Counts
@@ -62,81 +64,70 @@ module _ (rows : List ℕ) (count : ℕ) (table : List ℕ) (k : ℕ) (known : K
   counts_right (scope a E) n =
       rw (node_says rows count (scope a E) n).tag (at_operand E (omega arith) (scope_operand rows count E n))
 
--- What is stored.
-module _ (table : List ℕ) (k : ℕ) (c : Counts) where
-  abbrev with_entries : List ℕ
-  with_entries = set table (3 * k) c.entries
+-- A run of stores leaves what stands before it and behind it, and itself stands where it was stored.
+sets_before : (l : List ℕ) (i : ℕ) (vs : List ℕ) (j : ℕ) → j < i → get_or (sets l i vs) j 0 ≡ get_or l j 0
+sets_before l i [] j h = refl
+sets_before l i (v ∷ vs) j h = sets_before (set l i v) (suc i) vs j (omega arith) ∙ get_or-set_other l i j v 0 (λ e. omega arith)
 
-  abbrev with_internals : List ℕ
-  with_internals = set with_entries (3 * k + 1) c.internals
+sets_behind : (l : List ℕ) (i : ℕ) (vs : List ℕ) (j : ℕ) → i + length vs ≤ j → get_or (sets l i vs) j 0 ≡ get_or l j 0
+sets_behind l i [] j h = refl
+sets_behind l i (v ∷ vs) j h = sets_behind (set l i v) (suc i) vs j (omega arith) ∙ get_or-set_other l i j v 0 (λ e. omega arith)
 
-  stored_length : length (stored table k c) ≡ length table
-  stored_length = simp length-set
+sets_stand : (l : List ℕ) (i : ℕ) (vs : List ℕ) → i + length vs ≤ length l → Stands (sets l i vs) i vs
+sets_stand l i [] h j b = absurd (omega arith)
+sets_stand l i (v ∷ vs) h zero b =
+    ap (λ j. get_or (sets (set l i v) (suc i) vs) j 0) (add-zero i)
+    ∙ sets_before (set l i v) (suc i) vs i (omega arith)
+    ∙ get_or-set_same l i v 0 (omega arith)
+sets_stand l i (v ∷ vs) h (suc j) b =
+    let p : i + suc j ≡ suc i + j = omega arith in
+    ap (λ k. get_or (sets (set l i v) (suc i) vs) k 0) p
+    ∙ sets_stand (set l i v) (suc i) vs (simp length-set (omega arith)) j (omega arith)
 
-  stored_kept : (i : ℕ) → 3 * (k + 1) ≤ i → get_or (stored table k c) i 0 ≡ get_or table i 0
-  stored_kept i h =
-      get_or-set_other with_internals (3 * k + 2) i c.exits 0 (λ e. omega arith)
-      ∙ get_or-set_other with_entries (3 * k + 1) i c.internals 0 (λ e. omega arith)
-      ∙ get_or-set_other table (3 * k) i c.entries 0 (λ e. omega arith)
+-- Before the first turn no node is counted.
+pub none_counted : (rows table : List ℕ) (count : ℕ) → Counted rows count count table table
+none_counted rows table count = record { long = refl; kept = λ i h. refl; known = none_known rows count 3 box_counts table }
 
-  stored_stands : 3 * k + 2 < length table → Stands (stored table k c) (3 * k) (c.entries ∷ (c.internals ∷ (c.exits ∷ [])))
-  stored_stands h zero l =
-      let p : 3 * k + 0 ≡ 3 * k = omega arith in
-      ap (λ j. get_or (stored table k c) j 0) p
-      ∙ get_or-set_other with_internals (3 * k + 2) (3 * k) c.exits 0 (λ e. omega arith)
-      ∙ get_or-set_other with_entries (3 * k + 1) (3 * k) c.internals 0 (λ e. omega arith)
-      ∙ get_or-set_same table (3 * k) c.entries 0 (omega arith)
-  stored_stands h (suc zero) l =
-      get_or-set_other with_internals (3 * k + 2) (3 * k + 1) c.exits 0 (λ e. omega arith)
-      ∙ get_or-set_same with_entries (3 * k + 1) c.internals 0 (lt-length-set table (3 * k) c.entries (omega arith))
-  stored_stands h (suc (suc zero)) l =
-      get_or-set_same with_internals (3 * k + 2) c.exits 0
-      (lt-length-set with_entries (3 * k + 1) c.internals (lt-length-set table (3 * k) c.entries h))
-  stored_stands h (suc (suc (suc j))) l = absurd (omega arith)
-
--- Nothing is left to count.
-pub none_left : (rows table : List ℕ) {k : ℕ} → k ≡ 0 → Counted rows k table table
-none_left rows table e =
-    subst (λ k. Counted rows k table table) (sym e)
-    (record { long = refl; room = omega arith; kept = λ i h. refl; known = λ count known. known })
-
--- A node is counted, then those below it.
-one_more : (rows : List ℕ) (k : ℕ) (before after : List ℕ) → 3 * (k + 1) ≤ length before
-    → Counted rows k (stored before k (counts_by rows before k)) after → Counted rows (k + 1) before after
+-- The counts of node k are stored.
+one_counted : (rows : List ℕ) (count : ℕ) (before table : List ℕ) (k : ℕ) → k < count → 3 * count ≤ length table
+    → Counted rows count (k + 1) before table
+    → Counted rows count k before (sets table (3 * k) (row_numbers (counts_by rows table k)))
 unfolding box_counts
-one_more rows k before after room j =
-    let c = counts_by rows before k in
+one_counted rows count before table k inside room j =
+    let row = row_numbers (counts_by rows table k) in
     record {
-      long = j.long ∙ stored_length before k c;
-      room = room;
-      kept = λ i h. j.kept i (omega arith) ∙ stored_kept before k c i h;
-      known = λ count known. j.known count
-          (one_known rows count 3 box_counts k before (stored before k c) known (stored_kept before k c)
-          (λ i at E n. subst (λ d. Stands (stored before k c) (3 * k) (d.entries ∷ (d.internals ∷ (d.exits ∷ [])))) (counts_right rows count before k known E n)
-          (stored_stands before k c (omega arith))));
+      long = length-sets table (3 * k) row ∙ j.long;
+      kept = λ i h. sets_behind table (3 * k) row i (omega arith) ∙ j.kept i h;
+      known = one_known rows count 3 box_counts k table (sets table (3 * k) row) j.known (λ i h. sets_behind table (3 * k) row i (omega arith))
+          (λ i at E n. subst (λ c. Stands (sets table (3 * k) row) (3 * k) (row_numbers c)) (counts_right rows count table k j.known E n)
+          (sets_stand table (3 * k) row (omega arith)));
     }
 
--- The same of what the code stores.
-pub turn : (rows before : List ℕ) {between after : List ℕ} {k : ℕ} {c : Counts} → 3 * (k + 1) ≤ length before
-    → c ≡ counts_by rows before k → between ≡ stored before k c → Counted rows k between after → Counted rows (k + 1) before after
-turn rows before {between} {after} {k} {c} room e s j =
-    one_more rows k before after room (subst (λ t. Counted rows k t after) (s ∙ ap (stored before k) e) j)
-
--- One number written in two ways.
-pub moved : {rows before after : List ℕ} {k m : ℕ} → k ≡ m → Counted rows k before after → Counted rows m before after
-moved {rows} {before} {after} e j = subst (λ n. Counted rows n before after) e j
+-- The same of what a turn stores.
+pub turn : {rows before : List ℕ} {count high : ℕ} (table : List Counts) {c : Counts} → 0 < high → high ≤ count → count ≤ length table
+    → Counted rows count high before (counts_numbers table) → c ≡ counts_by rows (counts_numbers table) (high - 1)
+    → Counted rows count (high - 1) before (counts_numbers (set table (high - 1) c))
+turn {rows} {before} {count} {high} table {c} some inside room j e =
+    let k = high - 1 in
+    let p : high ≡ k + 1 = omega arith in
+    let counted = one_counted rows count before (counts_numbers table) k (omega arith) (omega (arith, counts_length table))
+            (subst (λ n. Counted rows count n before (counts_numbers table)) p j) in
+    subst (Counted rows count k before)
+    (sym (counts_stored table k c (omega arith) ∙ ap (λ d. sets (counts_numbers table) (3 * k) (row_numbers d)) e))
+    counted
 
 three : (E : Expr) → length (box_counts E) ≡ 3
 unfolding box_counts
 three E = refl
 
--- After the last node the table begins with the counts of every node.
-pub all_counted : {rows before after : List ℕ} {count : ℕ} → Counted rows count before after → (E : Expr) → Table rows count E
-    → after ≡ node_counts E ++ drop (3 * count) before
+-- After the last turn the table begins with the counts of every node.
+pub all_counted : {rows before after : List ℕ} {count k : ℕ} → k ≤ 0 → 3 * count ≤ length before → Counted rows count k before after
+    → (E : Expr) → Table rows count E → after ≡ node_counts E ++ drop (3 * count) before
 unfolding node_counts
-all_counted {rows} {before} {after} {count} j E t =
-    let known = j.known count (none_known rows count 3 box_counts before) in
+all_counted {rows} {before} {after} {count} {k} last room j E t =
+    let none : k ≡ 0 = omega arith in
+    let known = subst (λ n. Known rows count 3 box_counts n after) none j.known in
     let f = filled rows count 3 box_counts three after known _ E (table_node t) in
     let p : length (node_counts E) ≡ 3 * count = f.long ∙ ap (λ n. 3 * n) (sym t.nodes) in
-    stands_whole after before (node_counts E) j.long (omega (arith, j.room)) f.stands (λ i h. j.kept i (omega arith))
+    stands_whole after before (node_counts E) j.long (omega (arith, room)) f.stands (λ i h. j.kept i (omega arith))
     ∙ ap (λ n. node_counts E ++ drop n before) p

@@ -9,4 +9,5 @@ pub mod PairsDiffer
 pub mod LabelsFit
 pub mod TablesAreANet
 pub mod CountedByTag
+pub mod CountRows
 pub mod CountsEachNode

@@ -1,7 +1,12 @@
--- What counting the places does at one node, and what is known after the nodes from k on.
-use Rattle.std.specs.Prelude.{ℕ, ◌+◌, ◌*◌, ◌≤◌, ◌≡◌, List, cond, length, get_or, set, eqb}
+-- What counting the places does at one node, and what is known after the nodes from k on. A table of counts is seen as its numbers, three to a node.
+use Rattle.std.specs.Prelude.{ℕ, ◌+◌, ◌*◌, ◌≤◌, ◌≡◌, List, [], ◌∷◌, Result, Ok, Err, length, get_or}
+use Rattle.std.specs.List.{flat_map}
 use Rattle.field.specs.Limits.{place_limit}
+use Rattle.field.specs.declared.Fault.{Fault}
+use Rattle.plan.specs.declared.table.Tag.{Tag}
+use Rattle.plan.specs.declared.table.Tag.TheVariants.{Action, Sequence, Choice, Parallel, Loop, Scope}
 use Rattle.plan.specs.inner.Table.{tag_at, after_at, Known}
+use Rattle.plan.specs.inner.Numbers.{spelt}
 use Rattle.boxes.specs.Counts.{cut}
 use Rattle.boxes.specs.inner.NodeCounts.{box_counts}
 use Rattle.boxes.specs.declared.counts.Counts.{Counts}
@@ -9,11 +14,11 @@ use Rattle.boxes.specs.declared.counts.Counts.{Counts}
 abbrev pub counts : ℕ → ℕ → ℕ → Counts
 counts entries internals exits = record { entries = entries; internals = internals; exits = exits }
 
--- Each count is a number of 16 bits.
-pub record Small (c : Counts) : Type 0 where
-  pub entries : c.entries ≤ 65535
-  pub internals : c.internals ≤ 65535
-  pub exits : c.exits ≤ 65535
+abbrev pub row_numbers : Counts → List ℕ
+row_numbers c = c.entries ∷ (c.internals ∷ (c.exits ∷ []))
+
+abbrev pub counts_numbers : List Counts → List ℕ
+counts_numbers table = flat_map row_numbers table
 
 -- The three numbers of node k.
 abbrev pub counts_at : List ℕ → ℕ → Counts
@@ -35,29 +40,23 @@ loop_counts e f g =
     (cut place_limit (e.internals + (f.internals + (g.internals + e.exits * f.exits * (f.entries * g.entries)))))
     g.exits
 
--- The counts of node k, from its tag and its operands' counts.
+-- The counts of node k, from its tag and its operands' counts; no plan has a tag that is none.
+abbrev pub counts_of_tag : List ℕ → List ℕ → ℕ → Result Tag Fault → Counts
+counts_of_tag rows table k (Ok Action) = counts 1 0 1
+counts_of_tag rows table k (Ok Sequence) = sequence_counts (counts_at table (k + 1)) (counts_at table (after_at rows (k + 1)))
+counts_of_tag rows table k (Ok Choice) = choice_counts (counts_at table (k + 1)) (counts_at table (after_at rows (k + 1)))
+counts_of_tag rows table k (Ok Parallel) = parallel_counts (counts_at table (k + 1)) (counts_at table (after_at rows (k + 1)))
+counts_of_tag rows table k (Ok Loop) =
+    loop_counts (counts_at table (k + 1)) (counts_at table (after_at rows (k + 1))) (counts_at table (after_at rows (after_at rows (k + 1))))
+counts_of_tag rows table k (Ok Scope) = counts_at table (k + 1)
+counts_of_tag rows table k (Err fault) =
+    loop_counts (counts_at table (k + 1)) (counts_at table (after_at rows (k + 1))) (counts_at table (after_at rows (after_at rows (k + 1))))
+
 unfoldable pub counts_by : List ℕ → List ℕ → ℕ → Counts
-counts_by rows table k =
-    let e = counts_at table (k + 1) in
-    let f = counts_at table (after_at rows (k + 1)) in
-    cond (eqb (tag_at rows k) 1) (counts 1 0 1)
-    (cond (eqb (tag_at rows k) 6) e
-    (cond (eqb (tag_at rows k) 2) (sequence_counts e f)
-    (cond (eqb (tag_at rows k) 3) (choice_counts e f)
-    (cond (eqb (tag_at rows k) 4) (parallel_counts e f)
-    (loop_counts e f (counts_at table (after_at rows (after_at rows (k + 1)))))))))
+counts_by rows table k = counts_of_tag rows table k (spelt (tag_at rows k))
 
--- The table with the counts of node k.
-abbrev pub stored : List ℕ → ℕ → Counts → List ℕ
-stored table k c = set (set (set table (3 * k) c.entries) (3 * k + 1) c.internals) (3 * k + 2) c.exits
-
--- The nodes below k are counted too.
-pub record Counted (rows : List ℕ) (k : ℕ) (before after : List ℕ) : Type 0 where
+-- The nodes from k on are counted, of rows that are so many, and what lies behind their counts is as before.
+pub record Counted (rows : List ℕ) (count k : ℕ) (before after : List ℕ) : Type 0 where
   pub long : length after ≡ length before
-  pub room : 3 * k ≤ length before
-  pub kept : (i : ℕ) → 3 * k ≤ i → get_or after i 0 ≡ get_or before i 0
-  pub known : (count : ℕ) → Known rows count 3 box_counts k before → Known rows count 3 box_counts 0 after
-
--- The nodes from `low` to `high` are counted: whatever counts those below `low` from there counts all below `high`.
-abbrev pub CountsDown : List ℕ → ℕ → ℕ → List ℕ → List ℕ → Type 0
-CountsDown rows low high entry exit = (after : List ℕ) → Counted rows low exit after → Counted rows high entry after
+  pub kept : (i : ℕ) → 3 * count ≤ i → get_or after i 0 ≡ get_or before i 0
+  pub known : Known rows count 3 box_counts k after

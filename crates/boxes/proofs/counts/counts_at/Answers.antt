@@ -1,25 +1,12 @@
--- `counts_at` meets its contract: three numbers of 16 bits, each 0 where the table does not reach.
--- Assumes nothing.
-use native.Mathlib.Omega.{arith}
-use mathlib.Core.Path.{sym, ◌∙◌}
-use lib.ListN.{get_or-eq_default}
+use Rattle.std.proofs.Common.{sym, ◌∙◌}
 use Rattle.boxes.proofs.CountedByTag.{same_counts}
-use borrow.Author.Rules.{rules}
+use Rattle.boxes.proofs.CountRows.{counts_of_row, counts_past_rows}
 use Rattle.boxes.proofs.counts.counts_at.Goals as goal
 
-pub returns-then-at-counts : goal.returns-then-at-counts
-returns-then-at-counts c =
-    let first = c.wide.ensures in
-    let second = c.wide-then-at-counts.ensures in
-    let third = c.wide-then-at-counts-2.ensures in (
-      same_counts first.0 second.0 third.0,
-      record { entries = first.1; internals = second.1; exits = third.1 },
-    )
+pub returns-then-k-counts : goal.returns-then-k-counts
+returns-then-k-counts c = sym (counts_of_row c.args.counts.now c.args.k _ c.if-k-counts.true)
 
-pub returns : goal.returns
-returns c =
-    let first = c.wide-2.ensures in
-    let second = c.wide-3.ensures in (
-      same_counts (first.0 ∙ c.number_at.ensures) (second.0 ∙ c.number_at-2.ensures) (sym (get_or-eq_default c.args.counts.now 0 (omega arith))),
-      record { entries = first.1; internals = second.1; exits = search rules },
-    )
+pub returns-else-k-counts : goal.returns-else-k-counts
+returns-else-k-counts c =
+    let e = c.default.ensures in
+    same_counts e.0 e.1.0 e.1.1 ∙ sym (counts_past_rows c.args.counts.now c.args.k c.if-k-counts.false)

@@ -1,54 +1,35 @@
--- `counts_of` meets its contract: each return answers one case of `counts_by`.
--- Assumes nothing.
-use Rattle.boxes.proofs.CountedByTag.{by_action, by_scope, by_sequence, by_choice, by_parallel, by_loop}
-use borrow.Author.Rules.{rules}
+-- `counts_of` meets its contract: each arm answers one case of `counts_of_tag`.
+use Rattle.std.proofs.Common.{Ok, Err, rules}
+use Rattle.plan.specs.declared.table.Tag.TheVariants.{Action, Sequence, Choice, Parallel, Loop, Scope}
+use Rattle.plan.specs.inner.Numbers.{table_numbers}
+use Rattle.boxes.specs.inner.Counted.{counts_numbers}
+use Rattle.boxes.proofs.CountedByTag.{by_tag, by_no_tag}
 use Rattle.boxes.proofs.counts.counts_of.Goals as goal
+use Rattle.boxes.proofs.counts.counts_of.Goals.{in-Ok+in-Loop-1, in-Err-1}
 
-pub returns-then-tag-eq-ACTION : goal.returns-then-tag-eq-ACTION
-returns-then-tag-eq-ACTION c = (
-  by_action c.args.rows.now c.args.counts.now c.args.k c.row_number-tag.ensures.0
-      c.if-tag-eq-ACTION.true,
-  record { entries = search rules; internals = search rules; exits = search rules },
-)
+pub returns-in-Ok-Action : goal.returns-in-Ok-Action
+returns-in-Ok-Action c =
+    by_tag (table_numbers c.args.rows.now) (counts_numbers c.args.counts.now) c.args.k (Ok Action) c.row_at.ensures c.tag.ensures (cc) (cc)
 
-pub returns-then-tag-eq-SCOPE : goal.returns-then-tag-eq-SCOPE
-returns-then-tag-eq-SCOPE c = (
-  by_scope c.args.rows.now c.args.counts.now c.args.k c.row_number-tag.ensures.0 c.counts_at-e.ensures.0
-      c.if-tag-eq-SCOPE.true,
-  c.counts_at-e.ensures.1,
-)
+pub returns-in-Ok-Sequence : goal.returns-in-Ok-Sequence
+returns-in-Ok-Sequence c =
+    by_tag (table_numbers c.args.rows.now) (counts_numbers c.args.counts.now) c.args.k (Ok Sequence) c.row_at.ensures c.tag.ensures (cc) (cc)
 
-pub returns-then-tag-eq-SEQUENCE : goal.returns-then-tag-eq-SEQUENCE
-returns-then-tag-eq-SEQUENCE c = (
-  by_sequence c.args.rows.now c.args.counts.now c.args.k c.row_number-tag.ensures.0
-      c.counts_at-e.ensures.0 c.row_number-second.ensures.0 c.counts_at-f.ensures.0
-      c.if-tag-eq-SEQUENCE.true c.of_sequence.ensures.0,
-  c.of_sequence.ensures.1,
-)
+pub returns-in-Ok-Choice : goal.returns-in-Ok-Choice
+returns-in-Ok-Choice c =
+    by_tag (table_numbers c.args.rows.now) (counts_numbers c.args.counts.now) c.args.k (Ok Choice) c.row_at.ensures c.tag.ensures (cc) (cc)
 
-pub returns-then-tag-eq-CHOICE : goal.returns-then-tag-eq-CHOICE
-returns-then-tag-eq-CHOICE c = (
-  by_choice c.args.rows.now c.args.counts.now c.args.k c.row_number-tag.ensures.0
-      c.counts_at-e.ensures.0 c.row_number-second.ensures.0
-      c.counts_at-f.ensures.0 c.if-tag-eq-CHOICE.true c.of_choice.ensures.0,
-  c.of_choice.ensures.1,
-)
+pub returns-in-Ok-Parallel : goal.returns-in-Ok-Parallel
+returns-in-Ok-Parallel c =
+    by_tag (table_numbers c.args.rows.now) (counts_numbers c.args.counts.now) c.args.k (Ok Parallel) c.row_at.ensures c.tag.ensures (cc) (cc)
 
-pub returns-then-tag-eq-PARALLEL : goal.returns-then-tag-eq-PARALLEL
-returns-then-tag-eq-PARALLEL c = (
-  by_parallel c.args.rows.now c.args.counts.now c.args.k c.row_number-tag.ensures.0
-      c.counts_at-e.ensures.0 c.row_number-second.ensures.0
-      c.counts_at-f.ensures.0 c.if-tag-eq-PARALLEL.true c.of_parallel.ensures.0,
-  c.of_parallel.ensures.1,
-)
+pub returns-in-Ok-Scope : goal.returns-in-Ok-Scope
+returns-in-Ok-Scope c =
+    by_tag (table_numbers c.args.rows.now) (counts_numbers c.args.counts.now) c.args.k (Ok Scope) c.row_at.ensures c.tag.ensures (cc) (cc)
 
-pub returns : goal.returns
-returns c = (
-  by_loop c.args.rows.now c.args.counts.now c.args.k c.row_number-tag.ensures.0
-      c.counts_at-e.ensures.0
-      c.row_number-second.ensures.0 c.counts_at-f.ensures.0
-      c.if-tag-eq-ACTION.false c.if-tag-eq-SCOPE.false
-      c.if-tag-eq-SEQUENCE.false c.if-tag-eq-CHOICE.false c.if-tag-eq-PARALLEL.false
-      c.row_number-third.ensures.0 c.counts_at.ensures.0 c.of_loop.ensures.0,
-  c.of_loop.ensures.1,
-)
+pub returns-in-Ok-Loop : goal.returns-in-Ok-Loop
+returns-in-Ok-Loop c =
+    elim c.in-Ok-Loop-1.branch [
+      in-Ok+in-Loop-1 w ↦ by_tag (table_numbers c.args.rows.now) (counts_numbers c.args.counts.now) c.args.k (Ok Loop) c.row_at.ensures c.tag.ensures (cc) (cc)
+    | in-Err-1 w ↦ by_no_tag (table_numbers c.args.rows.now) (counts_numbers c.args.counts.now) c.args.k c.row_at.ensures c.tag.ensures (search rules) (cc)
+    ]

@@ -1,36 +1,14 @@
--- `of_loop` meets its contract: its sums and its product fit, and each count is that of a loop.
--- Assumes nothing.
-use native.Mathlib.Omega.{arith}
-use mathlib.Core.Path.{refl}
-use Rattle.boxes.proofs.CountedByTag.{same_counts, product_fits, products_fit}
+-- `of_loop` meets its contract: the product of four is cut off factor by factor.
+use Rattle.std.proofs.Common.{refl, ◌*◌, ◌∙◌, ap₂}
+use Rattle.boxes.specs.Counts.{cut}
+use Rattle.boxes.proofs.CountsCutOff.{cut_product}
+use Rattle.boxes.proofs.CountedByTag.{same_counts, cut_part}
 use Rattle.boxes.proofs.counts.of_loop.Goals as goal
 
-pub overflow_mul-places : goal.overflow_mul-places
-overflow_mul-places c =
-    omega (arith, product_fits c.requires.0.exits c.requires.1.exits)
-
-pub overflow_mul-places-2 : goal.overflow_mul-places-2
-overflow_mul-places-2 c =
-    omega (arith, product_fits c.requires.1.entries c.requires.2.entries)
-
-pub overflow_mul-places-3 : goal.overflow_mul-places-3
-overflow_mul-places-3 c =
-    omega (arith, products_fit c.requires.0.exits c.requires.1.exits c.requires.1.entries c.requires.2.entries)
-
-pub overflow_add-g : goal.overflow_add-g
-overflow_add-g c =
-    omega (arith, products_fit c.requires.0.exits c.requires.1.exits c.requires.1.entries c.requires.2.entries, c.requires.2.internals)
-
-pub overflow_add-f : goal.overflow_add-f
-overflow_add-f c =
-    omega (arith, products_fit c.requires.0.exits c.requires.1.exits c.requires.1.entries c.requires.2.entries, c.requires.1.internals, c.requires.2.internals)
-
-pub overflow_add-e : goal.overflow_add-e
-overflow_add-e c =
-    omega (arith, products_fit c.requires.0.exits c.requires.1.exits c.requires.1.entries c.requires.2.entries, c.requires.0.internals, c.requires.1.internals, c.requires.2.internals)
-
 pub returns : goal.returns
-returns c = (
-  same_counts refl c.cut_off.ensures.0 refl,
-  record { entries = c.requires.0.entries; internals = c.cut_off.ensures.1; exits = c.requires.2.exits },
-)
+returns c =
+    let a = c.args in
+    let places = c.product-places.ensures ∙ ap₂ (λ x y. cut 2048 (x * y)) c.product.ensures c.product-2.ensures ∙ cut_product 2048 (a.e.exits * a.f.exits) (a.f.entries * a.g.entries) in
+    let of_g = c.sum.ensures ∙ cut_part a.g.internals _ places in
+    let of_f = c.sum-2.ensures ∙ cut_part a.f.internals _ of_g in
+    same_counts refl (c.sum-3.ensures ∙ cut_part a.e.internals _ of_f) refl
