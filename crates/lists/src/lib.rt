@@ -42,16 +42,6 @@ impl Node {
     }
 }
 
-/// Where an operand's list stands in a list of its node: from position `off` on, with `left` places before it and `right` behind in the
-/// product. Each time that it is copied it stands `step` places further on.
-#[derive(Clone, Copy, Debug, PartialEq, Eq)]
-pub struct Move {
-    pub left: usize,
-    pub right: usize,
-    pub step: usize,
-    pub off: usize,
-}
-
 /// A number in 16 bits.
 pub fn short(number: usize) -> u16
     ensures { result ≡ number % 65536 }
@@ -72,16 +62,18 @@ pub fn places_from(base: u16) -> List
     }
 }
 
-/// "The number of a product place": an operand's list, by where it stands in a list of node k. The factors behind it make it wider, those
+/// "The number of a product place": an operand's list that stands from position `off` on in a list of node k, with `left` places before it and
+/// `right` behind in the product; each time that it is copied it stands `step` places further on. The factors behind it make it wider, those
 /// before it copy it; a factor of one place copies nothing, and where the node's list is not copied there is nothing to go on with.
-pub fn lowered(list: List, k: usize, to: Move) -> List
-    requires { Modest to.left to.right to.step to.off }
-    ensures { result ≡ cut (lower_by to.left to.right to.step to.off k list) }
+// Four numbers in a row and no struct of them: a literal of it would be laid out over six lines at each of the eleven calls.
+pub fn lowered(list: List, k: usize, left: usize, right: usize, step: usize, off: usize) -> List
+    requires { Modest left right step off }
+    ensures { result ≡ cut (lower_by left right step off k list) }
 {
     let of_node = usize::from(list.width);
-    let base = short(usize::from(list.base) + to.off * of_node);
-    let width = short(to.right * of_node);
-    if to.left == 1 {
+    let base = short(usize::from(list.base) + off * of_node);
+    let width = short(right * of_node);
+    if left == 1 {
         return List {
             base,
             width,
@@ -92,17 +84,21 @@ pub fn lowered(list: List, k: usize, to: Move) -> List
     List {
         base,
         width,
-        times: short(to.left),
-        step: short(to.step * of_node),
+        times: short(left),
+        step: short(step * of_node),
         up,
     }
 }
 
 /// The lists of node c, where the table reaches.
-pub fn put_node(lists: &mut [Node], c: usize, node: Node)
-    ensures { node_table lists.new ≡ node_put (node_table lists.old) c node.entries node.exits node.internal }
+pub fn put_node(lists: &mut [Node], c: usize, entries: List, exits: List, internal: u16)
+    ensures { node_table lists.new ≡ node_put (node_table lists.old) c entries exits internal }
 {
     if c < lists.len() {
-        lists[c] = node;
+        lists[c] = Node {
+            entries,
+            exits,
+            internal,
+        };
     }
 }

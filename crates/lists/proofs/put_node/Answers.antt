@@ -8,7 +8,7 @@ use Rattle.lists.proofs.put_node.Goals as goal
 pub returns-then-c-lists : goal.returns-then-c-lists
 returns-then-c-lists c =
     let a = c.args in
-    let short : ShortNode a.node = record {
+    let short : ShortNode (record { entries = a.entries; exits = a.exits; internal = a.internal }) = record {
       entries = record { base = search rules; width = search rules; times = search rules; step = search rules; up = search rules };
       exits = record { base = search rules; width = search rules; times = search rules; step = search rules; up = search rules };
       internal = search rules;
@@ -16,4 +16,4 @@ returns-then-c-lists c =
     node_stored a.lists.now a.c short c.if-c-lists.true
 
 pub returns-else-c-lists : goal.returns-else-c-lists
-returns-else-c-lists c = let a = c.args in none_stored a.lists.now a.c a.node.entries a.node.exits a.node.internal c.if-c-lists.false
+returns-else-c-lists c = let a = c.args in none_stored a.lists.now a.c a.entries a.exits a.internal c.if-c-lists.false

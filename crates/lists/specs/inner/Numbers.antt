@@ -15,6 +15,13 @@ node_numbers n = numbers_of n.entries (numbers_of n.exits (n.internal ∷ []))
 abbrev pub node_table : List Node → List ℕ
 node_table nodes = flat_map node_numbers nodes
 
+-- What stands past the table's end.
+abbrev pub no_list : declared.List
+no_list = record { base = 0; width = 0; times = 0; step = 0; up = 0 }
+
+abbrev pub no_node : Node
+no_node = record { entries = no_list; exits = no_list; internal = 0 }
+
 -- "Inputs" of an action are its entries, its outputs its exits.
 abbrev pub list_on : Side → Node → declared.List
 list_on Inputs n = n.entries
