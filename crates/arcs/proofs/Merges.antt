@@ -3,17 +3,21 @@
 use Prim.Native.Nat.{ℕ, zero, suc, ◌+◌, ◌-◌, ◌≤◌, ◌<◌}
 use native.Mathlib.Omega.{arith}
 use native.Mathlib.Numerals.{add-one}
-use native.Mathlib.Nat.{add-zero, add-suc}
+use native.Mathlib.Nat.{add-suc}
 use mathlib.Core.Path.{◌≡◌, refl, sym, ◌∙◌, ap, ap₂}
 use mathlib.Core.Bool.{Bool, true, false, cond, ◌||◌}
-use mathlib.Core.List.{List, [], ◌∷◌, ◌++◌}
+use mathlib.Core.List.{List, [], ◌∷◌, ◌++◌, append-nil, append_assoc}
 use lib.ListN.{length, get_or, take, drop, set, length-append, length-drop, take-append-drop, drop_of_length-le}
 use lib.Dec.{ltb}
-use lib.Seq.{sets, length-sets, length-take-le, take-suc, drop-cons, drop-drop, get_or-drop, take_all, take-set-le, drop-set-add}
+use lib.Seq.{sets, length-sets, length-take-le, take-suc, drop-cons, drop-drop, take_all, take-set-le, drop-set-add}
 use borrow.Author.Tests.{lt-ltb, le-ltb}
 use Rattle.algebra.specs.Places.{Place}
 use Rattle.algebra.specs.Arcs.{numbers}
-use Rattle.plan.proofs.Stores.{sets_append}
+use Rattle.field.proofs.NumbersOfRows.{sets_append}
+use Rattle.field.proofs.NumbersOfRows as rows
+use borrow.Rule.Slice.PartMut.{put_mid}
+use Rattle.std.proofs.lemmas.List.Edits.{sets-eq}
+use Rattle.std.specs.Prelude.{Option, Some, None, IfSome, IfNone}
 use Rattle.arcs.specs.inner.Merge.{into, union, Below, Run, Merged}
 
 into_low : (a : ℕ) (rest : List ℕ → List ℕ) (b : ℕ) (bs : List ℕ) → a < b → into a rest (b ∷ bs) ≡ a ∷ rest (b ∷ bs)
@@ -92,45 +96,62 @@ union_numbers f g k (p ∷ ps) = go (f p) (g p) (union_numbers f g (suc k) ps)
 head : (A : List ℕ) (i : ℕ) → i < length A → drop i A ≡ get_or A i 0 ∷ drop (i + 1) A
 head A i h = drop-cons A i 0 h ∙ ap (λ k. get_or A i 0 ∷ drop k A) (sym (add-one i))
 
--- ---- the copy: the run of stores of what is left
-pub copy_next : (list out : List ℕ) (i n : ℕ) → i < length list → sets out n (drop i list) ≡ sets (set out n (get_or list i 0)) (n + 1) (drop (i + 1) list)
-copy_next list out i n h = ap (sets out n) (head list i h) ∙ ap (λ k. sets (set out n (get_or list i 0)) k (drop (i + 1) list)) (sym (add-one n))
+-- ---- parts of a slice
+-- What `&s[i..]` holds.
+abbrev pub part : List ℕ → ℕ → List ℕ
+part l i = take (length l - i) (drop i l)
 
-pub copy_end : (list out : List ℕ) (i n : ℕ) → length list ≤ i → sets out n (drop i list) ≡ out
-copy_end list out i n h = ap (sets out n) (drop_of_length-le list h)
+pub part_is : (l : List ℕ) (i : ℕ) → part l i ≡ drop i l
+part_is l i = take_all (length l - i) (drop i l) (omega (arith, length-drop i l))
+
+-- What a list holds once its part from n on is this.
+abbrev pub put : List ℕ → ℕ → List ℕ → List ℕ
+put out n after = put_mid n (length out - n) out after
+
+put_is : (out : List ℕ) (n : ℕ) (after : List ℕ) → put out n after ≡ take n out ++ after
+put_is out n after =
+    let none : drop (length out - n) (drop n out) ≡ [] = drop_of_length-le (drop n out) (omega (arith, length-drop n out)) in
+    ap (λ l. take n out ++ (after ++ l)) none ∙ ap (λ l. take n out ++ l) (append-nil after)
+
+-- Numbers copied over a part are stored one after another.
+pub copied_over : (out : List ℕ) (at k : ℕ) {after rest : List ℕ} → after ≡ rest → k ≡ length rest → at + length rest ≤ length out → put_mid at k out after ≡ sets out at rest
+copied_over out at k {after} {rest} e f room =
+    let behind : drop k (drop at out) ≡ drop (at + length rest) out = ap (λ m. drop m (drop at out)) f ∙ drop-drop (length rest) at out in
+    ap₂ (λ l m. take at out ++ (l ++ m)) e behind
+    ∙ sym (sets-eq rest out at room ∙ append_assoc (take at out) rest (drop (at + length rest) out))
 
 -- ---- the run: the numbers below a bound
 below_snoc : (b : ℕ) (l : List ℕ) (x : ℕ) → Below b l → x < b → Below b (l ++ (x ∷ []))
 below_snoc b [] x h k = (k, tt)
 below_snoc b (a ∷ l) x h k = (h.0, below_snoc b l x h.1 k)
 
-pub run_start : (list : List ℕ) (from bound : ℕ) (before : List ℕ) (at : ℕ) → from ≤ length list → at ≤ length before → Run list from bound before at 0 before
-run_start list from bound before at h k = record { there = omega arith; room = omega arith; below = tt; written = refl }
+pub run_start : (list : List ℕ) (bound : ℕ) (before : List ℕ) → Run list bound before 0 before
+run_start list bound before = record { there = omega arith; room = omega arith; below = tt; written = refl }
 
 -- Where the first is below the bound, one that is not is not the first.
-pub run_some : (list : List ℕ) (from bound n : ℕ) → bound ≤ get_or list (from + n) 0 → get_or list from 0 < bound → 0 < n
-run_some list from bound zero h l = absurd (omega (arith, ap (λ k. get_or list k 0) (add-zero from)))
-run_some list from bound (suc n) h l = omega arith
+pub run_some : (list : List ℕ) (bound n : ℕ) → bound ≤ get_or list n 0 → get_or list 0 0 < bound → 0 < n
+run_some list bound zero h l = absurd (omega arith)
+run_some list bound (suc n) h l = omega arith
 
-module _ {list : List ℕ} {from bound : ℕ} {before : List ℕ} {at n : ℕ} {out : List ℕ} (g : Run list from bound before at n out) where
-  run_long : length (take n (drop from list)) ≡ n
-  run_long = length-take-le n (drop from list) (omega (arith, g.there, length-drop from list))
+module _ {list : List ℕ} {bound : ℕ} {before : List ℕ} {n : ℕ} {out : List ℕ} (g : Run list bound before n out) where
+  run_long : length (take n list) ≡ n
+  run_long = length-take-le n list g.there
 
-  pub run_next : from + n < length list → at + n < length before → get_or list (from + n) 0 < bound → Run list from bound before at (n + 1) (set out (at + n) (get_or list (from + n) 0))
+  pub run_next : n < length list → n < length before → get_or list n 0 < bound → Run list bound before (n + 1) (set out n (get_or list n 0))
   run_next h k l =
-      let v : ℕ = get_or list (from + n) 0 in
-      let so_far : List ℕ = take n (drop from list) in
-      let next : take (n + 1) (drop from list) ≡ so_far ++ (v ∷ []) = ap (λ m. take m (drop from list)) (add-one n) ∙ take-suc (drop from list) n 0 (omega (arith, length-drop from list)) ∙ ap (λ x. so_far ++ (x ∷ [])) (get_or-drop from list n 0) in
+      let v : ℕ = get_or list n 0 in
+      let so_far : List ℕ = take n list in
+      let next : take (n + 1) list ≡ so_far ++ (v ∷ []) = ap (λ m. take m list) (add-one n) ∙ take-suc list n 0 h in
       record {
         there = omega arith;
         room = omega arith;
         below = rw next (below_snoc bound so_far v g.below l);
-        written = ap (λ o. set o (at + n) v) g.written ∙ sym (ap (sets before at) next ∙ sets_append before at so_far (v ∷ []) ∙ ap (λ m. set (sets before at so_far) (at + m) v) run_long);
+        written = ap (λ o. set o n v) g.written ∙ sym (ap (sets before 0) next ∙ sets_append before 0 so_far (v ∷ []) ∙ ap (λ m. set (sets before 0 so_far) m v) (let p : 0 + length so_far ≡ n = omega (arith, run_long) in p));
       }
 
-  -- What is left is the run and what comes behind it.
-  run_parts : drop from list ≡ take n (drop from list) ++ drop (from + n) list
-  run_parts = sym (take-append-drop n (drop from list)) ∙ ap (λ l. take n (drop from list) ++ l) (drop-drop n from list)
+-- What is left is the run and what comes behind it.
+run_parts : (A : List ℕ) (i r : ℕ) → drop i A ≡ take r (drop i A) ++ drop (i + r) A
+run_parts A i r = sym (take-append-drop r (drop i A)) ∙ ap (λ l. take r (drop i A) ++ l) (drop-drop r i A)
 
 -- ---- the loop: what is written, and what is left
 pub record Merging (A B before out : List ℕ) (i j n : ℕ) : Type 0 where
@@ -179,17 +200,33 @@ module _ {A B before out : List ℕ} {i j n : ℕ} (g : Merging A B before out i
         is = g.is ∙ ap (sets out n) e ∙ sets_append out n l left ∙ ap₂ (λ o k. sets o (n + k) left) (sym w) q;
       }
 
-  pub turn_first : {r : ℕ} {after : List ℕ} → Run A i (get_or B j 0) out n r after → j < length B → Merging A B before after (i + r) j (n + r)
+  -- A run written in the room that is left.
+  ran : {r bound : ℕ} {list after : List ℕ} → Run list bound (part out n) r after → put out n after ≡ sets out n (take r list)
+  ran {r} {bound} {list} {after} run =
+      let l = take r list in
+      let long : length (take n out) ≡ n = length-take-le n out g.room in
+      let place : length (take n out) + 0 ≡ n = omega arith in
+      put_is out n after
+      ∙ ap (λ m. take n out ++ m) (run.written ∙ ap (λ m. sets m 0 l) (part_is out n))
+      ∙ sym (rows.sets_behind (take n out) (drop n out) 0 l)
+      ∙ ap₂ (λ o k. sets o k l) (take-append-drop n out) place
+
+  fits : {list after : List ℕ} {r bound : ℕ} → Run list bound (part out n) r after → n + r ≤ length out
+  fits run = omega (arith, run.room, g.room, ap length (part_is out n), length-drop n out)
+
+  pub turn_first : {r : ℕ} {after : List ℕ} → Run (part A i) (get_or B j 0) (part out n) r after → j < length B → Merging A B before (put out n after) (i + r) j (n + r)
   turn_first {r} {after} run k =
       let low : From (get_or B j 0) (drop j B) = rw (head B j k) (omega arith) in
-      wrote (take r (drop i A)) (run_long run) run.room run.written run.there (omega arith)
-      (ap (λ l. union l (drop j B)) (run_parts run) ∙ run_first (get_or B j 0) (take r (drop i A)) (drop (i + r) A) (drop j B) run.below low)
+      let ahead : drop i A ≡ take r (part A i) ++ drop (i + r) A = run_parts A i r ∙ ap (λ l. take r l ++ drop (i + r) A) (sym (part_is A i)) in
+      wrote (take r (part A i)) (run_long run) (fits run) (ran run) (omega (arith, run.there, g.first, ap length (part_is A i), length-drop i A)) (omega (arith, g.second))
+      (ap (λ l. union l (drop j B)) ahead ∙ run_first (get_or B j 0) (take r (part A i)) (drop (i + r) A) (drop j B) run.below low)
 
-  pub turn_second : {r : ℕ} {after : List ℕ} → Run B j (get_or A i 0) out n r after → i < length A → Merging A B before after i (j + r) (n + r)
+  pub turn_second : {r : ℕ} {after : List ℕ} → Run (part B j) (get_or A i 0) (part out n) r after → i < length A → Merging A B before (put out n after) i (j + r) (n + r)
   turn_second {r} {after} run k =
       let low : From (get_or A i 0) (drop i A) = rw (head A i k) (omega arith) in
-      wrote (take r (drop j B)) (run_long run) run.room run.written (omega arith) run.there
-      (ap (union (drop i A)) (run_parts run) ∙ run_second (get_or A i 0) (take r (drop j B)) (drop i A) (drop (j + r) B) run.below low)
+      let ahead : drop j B ≡ take r (part B j) ++ drop (j + r) B = run_parts B j r ∙ ap (λ l. take r l ++ drop (j + r) B) (sym (part_is B j)) in
+      wrote (take r (part B j)) (run_long run) (fits run) (ran run) (omega (arith, g.first)) (omega (arith, run.there, g.second, ap length (part_is B j), length-drop j B))
+      (ap (union (drop i A)) ahead ∙ run_second (get_or A i 0) (take r (part B j)) (drop i A) (drop (j + r) B) run.below low)
 
   pub turn_both : i < length A → j < length B → n < length out → get_or B j 0 ≤ get_or A i 0 → get_or A i 0 ≤ get_or B j 0 → Merging A B before (set out n (get_or A i 0)) (i + 1) (j + 1) (n + 1)
   turn_both h k m l p =
@@ -197,24 +234,28 @@ module _ {A B before out : List ℕ} {i j n : ℕ} (g : Merging A B before out i
       wrote (get_or A i 0 ∷ []) refl (omega arith) refl (omega arith) (omega arith) (rw (head A i h, head B j k, s) (same_first (get_or A i 0) (drop (i + 1) A) (drop (j + 1) B)))
 
   -- The room ends before the lists do.
-  pub merge_full : i < length A → length out ≤ n → Merged (length before) (n + 1) (union A B) before out
+  pub merge_full : i < length A → length out ≤ n → length before < length (union A B)
   merge_full h f =
       let left : 0 < length (union (drop i A) (drop j B)) = rw (head A i h) (some_union _ _ _) in
-      record { ends = λ l. absurd (omega (arith, g.long)); written = λ l. absurd (omega (arith, g.long)); beyond = λ l. omega (arith, g.all, g.long, g.room) }
+      omega (arith, g.all, g.long, g.room)
 
   -- One list has ended, and the rest of the other is copied.
-  rest_copied : {rest : List ℕ} → union (drop i A) (drop j B) ≡ rest → {r : ℕ} {after : List ℕ} → r ≡ n + length rest → (r ≤ length out → after ≡ sets out n rest) → Merged (length before) r (union A B) before after
-  rest_copied e c f = record {
-    ends = λ l. omega (arith, g.all, ap length e);
-    written = λ l. f (omega (arith, g.long)) ∙ sym (g.is ∙ ap (sets out n) e);
-    beyond = λ l. omega (arith, g.all, ap length e);
-  }
+  rest_copied : {rest : List ℕ} → union (drop i A) (drop j B) ≡ rest → (r : Option ℕ) {after : List ℕ}
+      → IfSome r (λ end. (end ≡ n + length rest) × (end ≤ length out) × (after ≡ sets out n rest)) → IfNone r (length out < n + length rest)
+      → Merged (length before) r (union A B) before after
+  rest_copied {rest} e (Some end) c d =
+      record { some = (omega (arith, c, g.long), omega (arith, c, g.all, ap length e), c.2 ∙ sym (g.is ∙ ap (sets out n) e)); none = tt }
+  rest_copied {rest} e None c d = record { some = tt; none = omega (arith, d, g.all, g.long, ap length e) }
 
-  pub first_copied : length B ≤ j → {r : ℕ} {after : List ℕ} → r ≡ n + length (drop i A) → (r ≤ length out → after ≡ sets out n (drop i A)) → Merged (length before) r (union A B) before after
-  first_copied h = rest_copied (ap (union (drop i A)) (drop_of_length-le B h) ∙ none_second (drop i A))
+  pub first_copied : length B ≤ j → (r : Option ℕ) {after : List ℕ}
+      → IfSome r (λ end. (end ≡ n + length (part A i)) × (end ≤ length out) × (after ≡ sets out n (part A i))) → IfNone r (length out < n + length (part A i))
+      → Merged (length before) r (union A B) before after
+  first_copied h = rest_copied (ap (union (drop i A)) (drop_of_length-le B h) ∙ none_second (drop i A) ∙ sym (part_is A i))
 
-  pub second_copied : length A ≤ i → {r : ℕ} {after : List ℕ} → r ≡ n + length (drop j B) → (r ≤ length out → after ≡ sets out n (drop j B)) → Merged (length before) r (union A B) before after
-  second_copied h = rest_copied (ap (λ l. union l (drop j B)) (drop_of_length-le A h) ∙ none_first (drop j B))
+  pub second_copied : length A ≤ i → (r : Option ℕ) {after : List ℕ}
+      → IfSome r (λ end. (end ≡ n + length (part B j)) × (end ≤ length out) × (after ≡ sets out n (part B j))) → IfNone r (length out < n + length (part B j))
+      → Merged (length before) r (union A B) before after
+  second_copied h = rest_copied (ap (λ l. union l (drop j B)) (drop_of_length-le A h) ∙ none_first (drop j B) ∙ sym (part_is B j))
 
 -- ---- what a caller has of it
 -- A run of stores in the part of a list from n on.
@@ -228,10 +269,3 @@ sets_behind n out i (x ∷ l) =
     ap (λ k. drop n (sets (set out (n + i) x) k l)) (sym (add-suc n i))
     ∙ sets_behind n (set out (n + i) x) (suc i) l
     ∙ ap (λ m. sets m (suc i) l) (drop-set-add n out i x)
-
--- What `&s[i..]` holds.
-abbrev pub part : List ℕ → ℕ → List ℕ
-part l i = take (length l - i) (drop i l)
-
-pub part_is : (l : List ℕ) (i : ℕ) → part l i ≡ drop i l
-part_is l i = take_all (length l - i) (drop i l) (omega (arith, length-drop i l))

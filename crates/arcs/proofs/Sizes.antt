@@ -18,7 +18,7 @@ use Rattle.arcs.specs.inner.Moves.{passes, box}
 use Rattle.boxes.specs.inner.Counted.{counts_at}
 use Rattle.net.specs.declared.Side.{Side}
 use Rattle.boxes.specs.declared.counts.Counts.{Counts}
-use Rattle.boxes.proofs.CountedByTag.{same_counts}
+use Rattle.boxes.proofs.CountRows.{same_counts}
 use Rattle.arcs.proofs.Levels.{lengths}
 
 abbrev pub sizes : Expr → Counts

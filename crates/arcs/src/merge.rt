@@ -1,56 +1,39 @@
 // Two rising lists made one: the numbers of both, in order, and a number of both once.
-ghost use Rattle.std.specs.Prelude.{◌≡◌, ◌+◌, ◌≤◌, ◌<◌, min, length, get_or, drop};
+ghost use Rattle.std.specs.Prelude.{◌≡◌, ◌+◌, ◌≤◌, ◌<◌, IfSome, IfNone, length, get_or};
 ghost use Rattle.std.proofs.lemmas.List.Edits.{sets};
 ghost use Rattle.arcs.specs.inner.Merge.{union, Run, Merged};
 
-fn lesser(x: usize, y: usize) -> usize
-    ensures { result ≡ min x y }
+// What is left of one list, written from `at` on. Answers where it ends, if there is room for all of it.
+fn copy_rest(rest: &[u16], out: &mut [u16], at: usize) -> Option<usize>
+    requires { at ≤ length out.old }
+    ensures some { IfSome result (λ end. (end ≡ at + length rest.now) × (end ≤ length out.old) × (out.new ≡ sets out.old at rest.now)) }
+    ensures none { IfNone result (length out.old < at + length rest.now) }
 {
-    if x < y { x } else { y }
+    if out.len() - at < rest.len() {
+        return None;
+    }
+    let end = at + rest.len();
+    out[at..end].copy_from_slice(rest);
+    Some(end)
 }
 
-// The list from `from` on, written from `at` on, where there is room for all of it. Answers where it ends.
-fn copy_rest(list: &[u16], from: usize, out: &mut [u16], at: usize) -> usize
-    requires { (from ≤ length list.now) × (at ≤ length out.old) }
-    ensures { (result ≡ at + length (drop from list.now)) × (result ≤ length out.old → out.new ≡ sets out.old at (drop from list.now)) }
+// The numbers at the head of the list that are below a bound, written as far as there is room. Answers how many.
+fn copy_below(list: &[u16], bound: u16, out: &mut [u16]) -> usize
+    ensures run { Run list.now bound out.old result out.new }
+    ensures some { 0 < length list.now → 0 < length out.old → get_or list.now 0 0 < bound → 0 < result }
 {
-    let end = at + (list.len() - from);
-    if out.len() < end {
-        return end;
-    }
-    let mut i = from;
-    let mut n = at;
-    while n < end {
-        out[n] = list[i];
-        i += 1;
-        n += 1;
-    }
-    end
-}
-
-// The numbers of the list from `from` on that are below a bound, as many as come one after another and find room from `at` on. Answers
-// how many, and not 0 where the first is below the bound and finds room.
-fn copy_below(list: &[u16], from: usize, bound: u16, out: &mut [u16], at: usize) -> usize
-    requires { (from ≤ length list.now) × (at ≤ length out.old) }
-    ensures { Run list.now from bound out.old at result out.new × (from < length list.now → at < length out.old → get_or list.now from 0 < bound → 0 < result) }
-{
-    let most = lesser(list.len() - from, out.len() - at);
-    let mut n = 0;
-    while n < most {
-        let x = list[from + n];
+    let most = list.len().min(out.len());
+    for (n, &x) in list[..most].iter().enumerate() {
         if bound <= x {
             return n;
         }
-        out[at + n] = x;
-        n += 1;
+        out[n] = x;
     }
-    n
+    most
 }
 
-// Two rising lists made one, in front of `out`. Answers how many numbers that are; where they are more than `out` holds, a number above
-// its length. While both lists have a number left, the numbers of one that are below the next of the other are written, or the number
-// that is next in both; and then what is left of one.
-pub fn merge(first: &[u16], second: &[u16], out: &mut [u16]) -> usize
+/// Two rising lists made one, in front of `out`. Answers how many numbers that are, if `out` has room for them.
+pub fn merge(first: &[u16], second: &[u16], out: &mut [u16]) -> Option<usize>
     ensures { Merged (length out.old) result (union first.now second.now) out.old out.new }
 {
     let mut i = 0;
@@ -58,19 +41,19 @@ pub fn merge(first: &[u16], second: &[u16], out: &mut [u16]) -> usize
     let mut n = 0;
     while i < first.len() {
         if second.len() <= j {
-            return copy_rest(first, i, out, n);
+            return copy_rest(&first[i..], out, n);
         }
         if out.len() <= n {
-            return n + 1;
+            return None;
         }
         let x = first[i];
         let y = second[j];
         if x < y {
-            let run = copy_below(first, i, y, out, n);
+            let run = copy_below(&first[i..], y, &mut out[n..]);
             i += run;
             n += run;
         } else if y < x {
-            let run = copy_below(second, j, x, out, n);
+            let run = copy_below(&second[j..], x, &mut out[n..]);
             j += run;
             n += run;
         } else {
@@ -80,5 +63,5 @@ pub fn merge(first: &[u16], second: &[u16], out: &mut [u16]) -> usize
             n += 1;
         }
     }
-    copy_rest(second, j, out, n)
+    copy_rest(&second[j..], out, n)
 }

@@ -1,6 +1,6 @@
--- One turn of counting, on plain values, and what the table holds after the last: the counts of every node in their order.
+-- One node counted, on plain values, and what the table holds after the last: the counts of every node in their order.
 -- A node is counted from operands that are counted, and its three numbers are written where no later node's stand.
-use Prim.Native.Nat.{ℕ, zero, suc, ◌+◌, ◌-◌, ◌*◌, ◌≤◌, ◌<◌}
+use Prim.Native.Nat.{ℕ, zero, suc, ◌+◌, ◌*◌, ◌≤◌, ◌<◌}
 use native.Mathlib.Omega.{arith}
 use native.Mathlib.Nat.{add-zero}
 use mathlib.Core.Path.{◌≡◌, refl, sym, ◌∙◌, ap, ap₂, subst}
@@ -15,10 +15,9 @@ use Rattle.plan.proofs.NodeTable.{node_says, sequence_operands, choice_operands,
 use Rattle.plan.proofs.NodeValues.{table_node, none_known, one_known, filled}
 use Rattle.boxes.specs.Counts.{entry_count, internal_count, exit_count}
 use Rattle.boxes.specs.inner.NodeCounts.{box_counts, node_counts}
-use Rattle.boxes.specs.inner.Counted.{counts, counts_at, sequence_counts, choice_counts, parallel_counts, loop_counts, counts_by, row_numbers, counts_numbers, Counted}
+use Rattle.boxes.specs.inner.Counted.{counts, counts_at, sequence_counts, choice_counts, parallel_counts, loop_counts, counts_by, row_numbers, counts_numbers, Counted, CountsDown}
 use Rattle.boxes.specs.declared.counts.Counts.{Counts}
-use Rattle.boxes.proofs.CountedByTag.{same_counts}
-use Rattle.boxes.proofs.CountRows.{counts_length, counts_stored}
+use Rattle.boxes.proofs.CountRows.{same_counts, counts_length, counts_stored}
 
 -- The counts of an expression.
 abbrev expr_counts : Expr → Counts
@@ -84,50 +83,48 @@ sets_stand l i (v ∷ vs) h (suc j) b =
     ap (λ k. get_or (sets (set l i v) (suc i) vs) k 0) p
     ∙ sets_stand (set l i v) (suc i) vs (simp length-set (omega arith)) j (omega arith)
 
--- Before the first turn no node is counted.
+-- At first no node is counted.
 pub none_counted : (rows table : List ℕ) (count : ℕ) → Counted rows count count table table
-none_counted rows table count = record { long = refl; kept = λ i h. refl; known = none_known rows count 3 box_counts table }
+none_counted rows table count =
+    record { within = omega arith; long = refl; kept = λ i h. refl; known = none_known rows count 3 box_counts table }
 
 -- The counts of node k are stored.
-one_counted : (rows : List ℕ) (count : ℕ) (before table : List ℕ) (k : ℕ) → k < count → 3 * count ≤ length table
-    → Counted rows count (k + 1) before table
-    → Counted rows count k before (sets table (3 * k) (row_numbers (counts_by rows table k)))
+one_stored : (rows table : List ℕ) (k : ℕ) → 3 * (k + 1) ≤ length table → CountsDown rows k (k + 1) table (sets table (3 * k) (row_numbers (counts_by rows table k)))
 unfolding box_counts
-one_counted rows count before table k inside room j =
+one_stored rows table k room count before j =
     let row = row_numbers (counts_by rows table k) in
     record {
+      within = omega (arith, j.within);
       long = length-sets table (3 * k) row ∙ j.long;
-      kept = λ i h. sets_behind table (3 * k) row i (omega arith) ∙ j.kept i h;
+      kept = λ i h. sets_behind table (3 * k) row i (omega (arith, j.within)) ∙ j.kept i h;
       known = one_known rows count 3 box_counts k table (sets table (3 * k) row) j.known (λ i h. sets_behind table (3 * k) row i (omega arith))
           (λ i at E n. subst (λ c. Stands (sets table (3 * k) row) (3 * k) (row_numbers c)) (counts_right rows count table k j.known E n)
           (sets_stand table (3 * k) row (omega arith)));
     }
 
--- The same of what a turn stores.
-pub turn : {rows before : List ℕ} {count high : ℕ} (table : List Counts) {c : Counts} → 0 < high → high ≤ count → count ≤ length table
-    → Counted rows count high before (counts_numbers table) → c ≡ counts_by rows (counts_numbers table) (high - 1)
-    → Counted rows count (high - 1) before (counts_numbers (set table (high - 1) c))
-turn {rows} {before} {count} {high} table {c} some inside room j e =
-    let k = high - 1 in
-    let p : high ≡ k + 1 = omega arith in
-    let counted = one_counted rows count before (counts_numbers table) k (omega arith) (omega (arith, counts_length table))
-            (subst (λ n. Counted rows count n before (counts_numbers table)) p j) in
-    subst (Counted rows count k before)
-    (sym (counts_stored table k c (omega arith) ∙ ap (λ d. sets (counts_numbers table) (3 * k) (row_numbers d)) e))
-    counted
+-- The same of a row of counts.
+pub one_counted : {rows : List ℕ} {k : ℕ} (table : List Counts) {c : Counts} → k < length table → c ≡ counts_by rows (counts_numbers table) k
+    → CountsDown rows k (k + 1) (counts_numbers table) (counts_numbers (set table k c))
+one_counted {rows} {k} table {c} room e =
+    let numbers = counts_numbers table in
+    subst (CountsDown rows k (k + 1) numbers)
+    (sym (counts_stored table k c room ∙ ap (λ d. sets numbers (3 * k) (row_numbers d)) e))
+    (one_stored rows numbers k (omega (arith, counts_length table)))
+
+-- One number written in two ways.
+pub moved : {rows before after : List ℕ} {count k m : ℕ} → k ≡ m → Counted rows count k before after → Counted rows count m before after
+moved {rows} {before} {after} {count} e j = subst (λ n. Counted rows count n before after) e j
 
 three : (E : Expr) → length (box_counts E) ≡ 3
 unfolding box_counts
 three E = refl
 
--- After the last turn the table begins with the counts of every node.
-pub all_counted : {rows before after : List ℕ} {count k : ℕ} → k ≤ 0 → 3 * count ≤ length before → Counted rows count k before after
+-- At last the table begins with the counts of every node.
+pub all_counted : {rows before after : List ℕ} {count : ℕ} → 3 * count ≤ length before → Counted rows count 0 before after
     → (E : Expr) → Table rows count E → after ≡ node_counts E ++ drop (3 * count) before
 unfolding node_counts
-all_counted {rows} {before} {after} {count} {k} last room j E t =
-    let none : k ≡ 0 = omega arith in
-    let known = subst (λ n. Known rows count 3 box_counts n after) none j.known in
-    let f = filled rows count 3 box_counts three after known _ E (table_node t) in
+all_counted {rows} {before} {after} {count} room j E t =
+    let f = filled rows count 3 box_counts three after j.known _ E (table_node t) in
     let p : length (node_counts E) ≡ 3 * count = f.long ∙ ap (λ n. 3 * n) (sym t.nodes) in
     stands_whole after before (node_counts E) j.long (omega (arith, room)) f.stands (λ i h. j.kept i (omega arith))
     ∙ ap (λ n. node_counts E ++ drop n before) p

@@ -8,6 +8,5 @@ pub mod ArcsCounted
 pub mod PairsDiffer
 pub mod LabelsFit
 pub mod TablesAreANet
-pub mod CountedByTag
 pub mod CountRows
 pub mod CountsEachNode

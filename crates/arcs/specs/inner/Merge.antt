@@ -1,5 +1,5 @@
 -- Two rising lists made one: the numbers of both, in order, and a number of both once.
-use Rattle.std.specs.Prelude.{ℕ, ◌+◌, ◌≤◌, ◌<◌, ◌≡◌, cond, List, [], ◌∷◌, length, take, drop, ltb}
+use Rattle.std.specs.Prelude.{ℕ, ◌≤◌, ◌<◌, ◌≡◌, cond, List, [], ◌∷◌, Option, IfSome, IfNone, length, take, ltb}
 use Rattle.std.proofs.lemmas.List.Edits.{sets}
 
 unfoldable pub into : ℕ → (List ℕ → List ℕ) → List ℕ → List ℕ
@@ -16,15 +16,14 @@ abbrev pub Below : ℕ → List ℕ → Type 0
 Below b [] = Unit {0}
 Below b (a ∷ l) = (a < b) × Below b l
 
--- The r numbers of a list from a place on are below a bound, and stand from `at` on in what was there.
-pub record Run (list : List ℕ) (from bound : ℕ) (before : List ℕ) (at r : ℕ) (after : List ℕ) : Type 0 where
-  pub there : from + r ≤ length list
-  pub room : at + r ≤ length before
-  pub below : Below bound (take r (drop from list))
-  pub written : after ≡ sets before at (take r (drop from list))
+-- The first r numbers of a list are below a bound, and stand in front of what was there.
+pub record Run (list : List ℕ) (bound : ℕ) (before : List ℕ) (r : ℕ) (after : List ℕ) : Type 0 where
+  pub there : r ≤ length list
+  pub room : r ≤ length before
+  pub below : Below bound (take r list)
+  pub written : after ≡ sets before 0 (take r list)
 
--- The list stands in front of what was there, and r is its length; or r is above the limit, and then so is its length.
-pub record Merged (limit r : ℕ) (l before after : List ℕ) : Type 0 where
-  pub ends : r ≤ limit → r ≡ length l
-  pub written : r ≤ limit → after ≡ sets before 0 l
-  pub beyond : limit < r → limit < length l
+-- The list stands in front of what was there, and its length is told; or it is longer than the limit.
+pub record Merged (limit : ℕ) (r : Option ℕ) (l before after : List ℕ) : Type 0 where
+  pub some : IfSome r (λ n. (n ≤ limit) × (n ≡ length l) × (after ≡ sets before 0 l))
+  pub none : IfNone r (limit < length l)

@@ -57,6 +57,11 @@ counts_by rows table k = counts_of_tag rows table k (spelt (tag_at rows k))
 
 -- The nodes from k on are counted, of rows that are so many, and what lies behind their counts is as before.
 pub record Counted (rows : List ℕ) (count k : ℕ) (before after : List ℕ) : Type 0 where
+  pub within : k ≤ count
   pub long : length after ≡ length before
   pub kept : (i : ℕ) → 3 * count ≤ i → get_or after i 0 ≡ get_or before i 0
   pub known : Known rows count 3 box_counts k after
+
+-- The nodes from `low` to `high` are counted, those from `high` on being counted already.
+abbrev pub CountsDown : List ℕ → ℕ → ℕ → List ℕ → List ℕ → Type 0
+CountsDown rows low high entry exit = (count : ℕ) (before : List ℕ) → Counted rows count high before entry → Counted rows count low before exit

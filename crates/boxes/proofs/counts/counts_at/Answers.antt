@@ -1,6 +1,6 @@
+-- `counts_at` meets its contract: the row's three numbers, or zeros past the last row.
 use Rattle.std.proofs.Common.{sym, ◌∙◌}
-use Rattle.boxes.proofs.CountedByTag.{same_counts}
-use Rattle.boxes.proofs.CountRows.{counts_of_row, counts_past_rows}
+use Rattle.boxes.proofs.CountRows.{same_counts, counts_of_row, counts_past_rows}
 use Rattle.boxes.proofs.counts.counts_at.Goals as goal
 
 pub returns-then-k-counts : goal.returns-then-k-counts
