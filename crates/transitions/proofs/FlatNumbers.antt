@@ -1,16 +1,18 @@
 -- The three numbers of each transition: how many they are, where they stand in a list, and what a store of three leaves.
 -- True by recursion on the transitions, and because a store changes nothing before it and behind it.
-use Prim.Native.Nat.{ℕ, ◌+◌, ◌*◌, ◌≤◌, ◌<◌}
+use Prim.Native.Nat.{ℕ, zero, suc, ◌+◌, ◌*◌, ◌-◌, ◌≤◌, ◌<◌}
 use native.Mathlib.Omega.{arith}
 use native.Mathlib.Numerals.{add-one, add-two}
 use mathlib.Core.Path.{◌≡◌, refl, sym, ◌∙◌, ap, subst}
 use mathlib.Core.List.{List, [], ◌∷◌, ◌++◌}
-use lib.ListN.{length, get_or, take, drop, set, length-append, length-set}
-use lib.Seq.{sets-eq, take_at, get_or-set_other, length-take-le}
+use lib.ListN.{length, get_or, take, drop, set, length-append, length-set, length-take, length-drop}
+use lib.Seq.{sets-eq, take_at, get_or-set_other, length-take-le, get_or-take, get_or-drop, take-nil, drop-nil}
 use Rattle.algebra.specs.Item.{first}
 use Rattle.algebra.specs.Transitions.{Labelled}
+use Rattle.field.proofs.NumbersOfRows.{length_numbers, number_of_row, numbers_set}
 use Rattle.plan.proofs.Stands.{stands_second, stands_at}
-use Rattle.transitions.specs.inner.Numbers.{flat, second}
+use Rattle.transitions.specs.declared.Transition.{Transition}
+use Rattle.transitions.specs.inner.Numbers.{flat, second, transition_numbers, list_numbers}
 use Rattle.transitions.specs.inner.Listing.{Part, Stored}
 
 pub flat_append : (ts us : List Labelled) → flat (ts ++ us) ≡ flat ts ++ flat us
@@ -69,7 +71,53 @@ stored entry t a b c h = record {
     long : length (take (3 * t) entry ++ three) ≡ 3 * (t + 1)
     long = length-append (take (3 * t) entry) three ∙ omega (arith, length-take-le (3 * t) entry (omega arith))
 
--- The same, store by store.
-pub three_stored : {entry l m exit : List ℕ} {t a b c : ℕ} → 3 * t + 2 < length entry → l ≡ set entry (3 * t) a → m ≡ set l (3 * t + 1) b → exit ≡ set m (3 * t + 2) c → Stored t a b c entry exit
-three_stored {entry} {t = t} {a} {b} {c} h p q r =
-    subst (Stored t a b c entry) (sym (r ∙ ap (λ k. set k (3 * t + 2) c) (q ∙ ap (λ k. set k (3 * t + 1) b) p))) (stored entry t a b c h)
+-- ---- a list of transitions as their numbers
+
+pub list_length : (list : List Transition) → length (list_numbers list) ≡ 3 * length list
+list_length list = length_numbers transition_numbers 3 (λ t. refl) list
+
+module _ (list : List Transition) (t : ℕ) (d : Transition) (h : t < length list) where
+  number : (j : ℕ) → j < 3 → get_or (list_numbers list) (3 * t + j) 0 ≡ get_or (transition_numbers (get_or list t d)) j 0
+  number j l = number_of_row transition_numbers 3 (λ t. refl) list t j d h l
+
+  pub label_of : get_or (list_numbers list) (3 * t) 0 ≡ (get_or list t d).label
+  label_of = let e : 3 * t ≡ 3 * t + 0 = omega arith in ap (λ i. get_or (list_numbers list) i 0) e ∙ number 0 (omega arith)
+
+  pub first_of : get_or (list_numbers list) (3 * t + 1) 0 ≡ (get_or list t d).first
+  first_of = number 1 (omega arith)
+
+  pub second_of : get_or (list_numbers list) (3 * t + 2) 0 ≡ (get_or list t d).second
+  second_of = number 2 (omega arith)
+
+-- A transition stored.
+pub transition_stored : (list : List Transition) (t : ℕ) (x : Transition) → t < length list → Stored t x.label x.first x.second (list_numbers list) (list_numbers (set list t x))
+transition_stored list t x h = subst (Stored t x.label x.first x.second (list_numbers list)) (sym all) (stored (list_numbers list) t x.label x.first x.second (omega (arith, list_length list)))
+  where
+    all : list_numbers (set list t x) ≡ set (set (set (list_numbers list) (3 * t) x.label) (3 * t + 1) x.first) (3 * t + 2) x.second
+    all = numbers_set transition_numbers 3 (λ t. refl) list t x h ∙ rw (add-one, add-two) refl
+
+list_drop : (start : ℕ) (list : List Transition) → list_numbers (drop start list) ≡ drop (3 * start) (list_numbers list)
+list_drop zero list = refl
+list_drop (suc n) [] = sym (drop-nil (3 * suc n))
+list_drop (suc n) (x ∷ list) =
+    let e : 3 * suc n ≡ suc (suc (suc (3 * n))) = omega arith in
+    list_drop n list ∙ ap (λ i. drop i (list_numbers (x ∷ list))) (sym e)
+
+pub list_take : (n : ℕ) (list : List Transition) → list_numbers (take n list) ≡ take (3 * n) (list_numbers list)
+list_take zero list = refl
+list_take (suc n) [] = sym (take-nil (3 * suc n))
+list_take (suc n) (x ∷ list) =
+    let e : 3 * suc n ≡ suc (suc (suc (3 * n))) = omega arith in
+    ap (λ l. x.label ∷ (x.first ∷ (x.second ∷ l))) (list_take n list) ∙ ap (λ i. take i (list_numbers (x ∷ list))) (sym e)
+
+-- A part of a list, cut out.
+pub part_cut : (list : List Transition) (start end : ℕ) (ts : List Labelled) → end ≤ length list → Part (list_numbers list) start end ts → Part (list_numbers (take (end - start) (drop start list))) 0 (length (take (end - start) (drop start list))) ts
+part_cut list start end ts h p = record {
+  count = simp (length-take, length-drop) (omega (arith, p.count));
+  stands = λ j l.
+      ap (λ i. get_or (list_numbers (take (end - start) (drop start list))) i 0) (let e : 3 * 0 + j ≡ j = omega arith in e)
+      ∙ ap (λ q. get_or q j 0) (list_take (end - start) (drop start list) ∙ ap (take (3 * (end - start))) (list_drop start list))
+      ∙ get_or-take (3 * (end - start)) (drop (3 * start) (list_numbers list)) j 0 (omega (arith, p.count, flat_length ts))
+      ∙ get_or-drop (3 * start) (list_numbers list) j 0
+      ∙ p.stands j l;
+}

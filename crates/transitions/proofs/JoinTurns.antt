@@ -1,25 +1,19 @@
 -- A turn of the loops that join the pairs of a scope.
 -- True because a turn takes the first action of those that are left, as the definitions do.
-use Prim.Native.Nat.{ℕ, suc, ◌+◌, ◌≤◌, ◌<◌}
+use Prim.Native.Nat.{ℕ, ◌+◌, ◌≤◌, ◌<◌}
 use native.Mathlib.Omega.{arith}
-use native.Mathlib.Numerals.{add-one}
 use mathlib.Core.Path.{◌≡◌, refl, sym, ◌∙◌, ap, subst}
 use mathlib.Core.Bool.{Bool, true, false, cond}
 use mathlib.Core.List.{List, [], ◌∷◌, ◌++◌}
 use lib.ListN.{length, get_or, drop, length-append, drop_of_length-le}
-use lib.Seq.{drop-cons, get_or-take}
+use Rattle.std.proofs.lemmas.List.{drop_more}
 use Rattle.transitions.specs.inner.Numbers.{most}
-use Rattle.transitions.specs.inner.Listing.{Stored, Found, Held, pairs, pairs_with, pairs_of, joined_pair}
+use Rattle.transitions.specs.inner.Listing.{Stored, Held, pairs, pairs_with, pairs_of, joined_pair}
 use Rattle.transitions.proofs.StillToCome.{Left, all_held, one_stored, some_held}
 use Rattle.transitions.proofs.Weights.{pairs_with_all, pairs_of_all}
 
-found_over : {list is : List ℕ} {count u : ℕ} → Found count list is → count ≤ u → drop u is ≡ []
-found_over {is = is} {u = u} f h = drop_of_length-le is {i = u} (omega (arith, f.count))
-
-found_next : {list is : List ℕ} {count u x : ℕ} → Found count list is → u < count → x ≡ get_or list u 0 → drop u is ≡ x ∷ drop (u + 1) is
-found_next {list} {is} {count} {u} {x} f h e =
-    let v : get_or is u 0 ≡ x = ap (λ l. get_or l u 0) (sym f.numbers) ∙ get_or-take count list u 0 h ∙ sym e in
-    drop-cons is u 0 (omega (arith, f.count)) ∙ ap (λ y. y ∷ drop (suc u) is) v ∙ ap (λ m. x ∷ drop m is) (sym (add-one u))
+one_left : (is : List ℕ) {u x : ℕ} → u < length is → x ≡ get_or is u 0 → drop u is ≡ x ∷ drop (u + 1) is
+one_left is {u} h e = drop_more is u 0 h ∙ ap (λ y. y ∷ drop (u + 1) is) (sym e)
 
 module _ (part : ℕ → ℕ → Bool) where
   -- What the test says of the numbers that the code hands it.
@@ -46,42 +40,42 @@ module _ (part : ℕ → ℕ → Bool) where
   abbrev pub Joining : List ℕ → ℕ → ℕ → List ℕ → List ℕ → ℕ → ℕ → Type 0
   Joining entry n i js list so_far u = Left entry n list so_far (pairs_with part i js) (pairs_with part i (drop u js))
 
-  module _ (entry list others js : List ℕ) (n so_far u count i : ℕ) (f : Found count others js) where
+  module _ (entry list js : List ℕ) (n so_far u i : ℕ) where
     abbrev Now : List ℕ → ℕ → ℕ → Type 0
     Now list so_far u = Joining entry n i js list so_far u
 
-    next : {j : ℕ} (b : Bool) → u < count → j ≡ get_or others u 0 → part i j ≡ b
+    next : {j : ℕ} (b : Bool) → u < length js → j ≡ get_or js u 0 → part i j ≡ b
         → pairs_with part i (drop u js) ≡ cond b (joined_pair i j ∷ pairs_with part i (drop (u + 1) js)) (pairs_with part i (drop (u + 1) js))
-    next {j} b h e p = ap (pairs_with part i) (found_next f h e) ∙ pairs_with_next i j (drop (u + 1) js) b p
+    next {j} b h e p = ap (pairs_with part i) (one_left js h e) ∙ pairs_with_next i j (drop (u + 1) js) b p
 
-    pub one_joined : {j : ℕ} {exit : List ℕ} → u < count → j ≡ get_or others u 0 → part i j ≡ true → Stored so_far 0 i j list exit → Now list so_far u → Now exit (so_far + 1) (u + 1)
+    pub one_joined : {j : ℕ} {exit : List ℕ} → u < length js → j ≡ get_or js u 0 → part i j ≡ true → Stored so_far 0 i j list exit → Now list so_far u → Now exit (so_far + 1) (u + 1)
     one_joined h e p s w = one_stored (subst (λ q. Left entry n list so_far (pairs_with part i js) q) (next true h e p) w) s refl refl refl
 
-    pub none_joined : {j : ℕ} → u < count → j ≡ get_or others u 0 → part i j ≡ false → Now list so_far u → Now list so_far (u + 1)
+    pub none_joined : {j : ℕ} → u < length js → j ≡ get_or js u 0 → part i j ≡ false → Now list so_far u → Now list so_far (u + 1)
     none_joined h e p w = subst (λ q. Left entry n list so_far (pairs_with part i js) q) (next false h e p) w
 
-    pub no_room : {j : ℕ} → u < count → j ≡ get_or others u 0 → part i j ≡ true → most ≤ so_far → Now list so_far u → most < n + (0 + pairs (pairs_with part i js))
+    pub no_room : {j : ℕ} → u < length js → j ≡ get_or js u 0 → part i j ≡ true → most ≤ so_far → Now list so_far u → most < n + (0 + pairs (pairs_with part i js))
     no_room h e p full w = omega (arith, w.count, ap length (next true h e p), pairs_with_all part i js)
 
-    pub all_joined : count ≤ u → Now list so_far u → Held so_far n (pairs_with part i js) entry list
-    all_joined h w = all_held (subst (λ q. Left entry n list so_far (pairs_with part i js) q) (ap (pairs_with part i) (found_over f h) ∙ pairs_with_none i) w)
+    pub all_joined : length js ≤ u → Now list so_far u → Held so_far n (pairs_with part i js) entry list
+    all_joined h w = all_held (subst (λ q. Left entry n list so_far (pairs_with part i js) q) (ap (pairs_with part i) (drop_of_length-le js {i = u} h) ∙ pairs_with_none i) w)
 
   -- The pairs of the actions up to t are joined.
   abbrev pub JoiningAll : List ℕ → ℕ → List ℕ → List ℕ → List ℕ → ℕ → ℕ → Type 0
   JoiningAll entry n is js list so_far t = Left entry n list so_far (pairs_of part is js) (pairs_of part (drop t is) js)
 
-  module _ (entry list left is js : List ℕ) (n so_far t count : ℕ) (f : Found count left is) where
+  module _ (entry list is js : List ℕ) (n so_far t : ℕ) where
     abbrev Joins : List ℕ → ℕ → ℕ → Type 0
     Joins list so_far t = JoiningAll entry n is js list so_far t
 
-    of_next : {i : ℕ} → t < count → i ≡ get_or left t 0 → pairs_of part (drop t is) js ≡ pairs_with part i js ++ pairs_of part (drop (t + 1) is) js
-    of_next {i} h e = ap (λ q. pairs_of part q js) (found_next f h e) ∙ pairs_of_next i (drop (t + 1) is) js
+    of_next : {i : ℕ} → t < length is → i ≡ get_or is t 0 → pairs_of part (drop t is) js ≡ pairs_with part i js ++ pairs_of part (drop (t + 1) is) js
+    of_next {i} h e = ap (λ q. pairs_of part q js) (one_left is h e) ∙ pairs_of_next i (drop (t + 1) is) js
 
-    pub one_more_joined : {i m : ℕ} {exit : List ℕ} → t < count → i ≡ get_or left t 0 → Held m so_far (pairs_with part i js) list exit → Joins list so_far t → Joins exit m (t + 1)
+    pub one_more_joined : {i m : ℕ} {exit : List ℕ} → t < length is → i ≡ get_or is t 0 → Held m so_far (pairs_with part i js) list exit → Joins list so_far t → Joins exit m (t + 1)
     one_more_joined {i} h e s w =
         some_held (pairs_with part i js) (pairs_of part (drop (t + 1) is) js) (subst (λ q. Left entry n list so_far (pairs_of part is js) q) (of_next h e) w) s
 
-    pub no_more_room : {i : ℕ} → t < count → i ≡ get_or left t 0 → most < so_far + (0 + pairs (pairs_with part i js)) → Joins list so_far t → most < n + (0 + pairs (pairs_of part is js))
+    pub no_more_room : {i : ℕ} → t < length is → i ≡ get_or is t 0 → most < so_far + (0 + pairs (pairs_with part i js)) → Joins list so_far t → most < n + (0 + pairs (pairs_of part is js))
     no_more_room {i} h e full w =
         omega (
           arith,
@@ -92,5 +86,5 @@ module _ (part : ℕ → ℕ → Bool) where
           pairs_of_all part is js,
         )
 
-    pub all_pairs_joined : count ≤ t → Joins list so_far t → Held so_far n (pairs_of part is js) entry list
-    all_pairs_joined h w = all_held (subst (λ q. Left entry n list so_far (pairs_of part is js) q) (ap (λ q. pairs_of part q js) (found_over f h) ∙ pairs_of_none js) w)
+    pub all_pairs_joined : length is ≤ t → Joins list so_far t → Held so_far n (pairs_of part is js) entry list
+    all_pairs_joined h w = all_held (subst (λ q. Left entry n list so_far (pairs_of part is js) q) (ap (λ q. pairs_of part q js) (drop_of_length-le is {i = t} h) ∙ pairs_of_none js) w)

@@ -5,6 +5,7 @@ use native.Mathlib.Omega.{arith}
 use mathlib.Core.Path.{◌≡◌, refl, sym, ◌∙◌, ap, subst}
 use mathlib.Core.List.{List, [], ◌∷◌, ◌++◌, append_assoc}
 use lib.ListN.{get_or}
+use Rattle.std.specs.Prelude.{Option, Some, None}
 use Rattle.algebra.specs.Expr.{Expr, action, sequence, choice, parallel, loop, scope, actions}
 use Rattle.algebra.specs.Scopes.{ScopesNamed}
 use Rattle.algebra.specs.Transitions.{Labelled, transitions}
@@ -13,11 +14,11 @@ use Rattle.plan.specs.inner.Table.{Node, tag_at, after_at}
 use Rattle.plan.proofs.NodeTable.{node_says, sequence_operands, choice_operands, parallel_operands, loop_operands}
 use Rattle.plan.proofs.NodeValues.{node_count_positive}
 use Rattle.transitions.specs.inner.Numbers.{most}
-use Rattle.transitions.specs.inner.Parting.{first_at}
-use Rattle.transitions.specs.inner.Listing.{Stored, Lists, pairs, Operands, AllNamed, all_actions, all_transitions}
+use Rattle.plan.specs.inner.Numbers.{first_at}
+use Rattle.transitions.specs.inner.Listing.{Stored, Held, Lists, pairs, Operands, AllNamed, all_actions, all_transitions}
 use Rattle.transitions.proofs.WhereActionsPart.{node_first}
 use Rattle.transitions.proofs.Weights.{pairs_append, transitions_weight}
-use Rattle.transitions.proofs.StillToCome.{Left, nothing_yet, one_stored, some_held, all_held, is_held}
+use Rattle.transitions.proofs.StillToCome.{Left, nothing_yet, one_stored, some_held, all_held}
 
 some_action : (E : Expr) → 1 ≤ actions E
 unfolding actions
@@ -131,10 +132,10 @@ module _ (rows : List ℕ) (count end : ℕ) (entry : List ℕ) (n few : ℕ) (a
   abbrev Are : ℕ → List Expr → Type 0
   Are i Es = Fields rows count end entry n few all at list so_far i Es
 
-  pub all_listed : (i : ℕ) (Es : List Expr) → Are i Es → end ≤ at → so_far ≤ most → Lists so_far n few all entry list
+  pub all_listed : (i : ℕ) (Es : List Expr) → Are i Es → end ≤ at → Held so_far n all entry list
   unfolding all_transitions
-  all_listed i [] w h fits = is_held fits (all_held w.held)
-  all_listed i (E ∷ Es) w h fits =
+  all_listed i [] w h = all_held w.held
+  all_listed i (E ∷ Es) w h =
       absurd (omega (arith, operands_within rows count end (at + node_count E) (i + actions E) Es w.stand.1, node_count_positive E))
 
   module _ (more : at < end) {tag : ℕ} (read : tag ≡ tag_at rows at) where
@@ -201,32 +202,52 @@ module _ (rows : List ℕ) (count end : ℕ) (entry : List ℕ) (n few : ℕ) (a
           let a : after ≡ at + node_count E = e ∙ (node_says rows count E w.stand.0.1).after in
           (omega (arith, node_count_positive E), omega (arith, operands_within rows count end (at + node_count E) (i + actions E) Es w.stand.1))
 
-      pub scope_listed : (i : ℕ) (Es : List Expr) → Are i Es → tag ≡ 6 → {m : ℕ} {exit : List ℕ}
-          → ((count i o a : ℕ) (D : Expr) → Node rows count at i o (scope a D) → after ≡ at + node_count (scope a D) → ScopesNamed (scope a D) → actions D ≤ 256 → Lists m so_far (actions D) (transitions i (scope a D)) list exit)
-          → (m ≤ most → Now after exit m) × (most < m → most < n + (few + pairs all))
-      unfolding all_actions all_transitions actions
-      scope_listed i [] w t lists = absurd (omega (arith, w.stand))
-      scope_listed i (action b ∷ Es) w t lists = absurd (omega (arith, (node_says rows count (action b) w.stand.0.1).tag))
-      scope_listed i (sequence E F ∷ Es) w t lists = absurd (omega (arith, (node_says rows count (sequence E F) w.stand.0.1).tag))
-      scope_listed i (choice E F ∷ Es) w t lists = absurd (omega (arith, (node_says rows count (choice E F) w.stand.0.1).tag))
-      scope_listed i (parallel E F ∷ Es) w t lists = absurd (omega (arith, (node_says rows count (parallel E F) w.stand.0.1).tag))
-      scope_listed i (loop E F G ∷ Es) w t lists = absurd (omega (arith, (node_says rows count (loop E F G) w.stand.0.1).tag))
-      scope_listed i (scope a D ∷ Es) w t {m} lists =
-          let node = w.stand.0.1 in
-          let ends = e ∙ (node_says rows count (scope a D) node).after in
-          let ts = transitions i (scope a D) in
-          let us = all_transitions (i + actions D) Es in
-          let told = lists count i w.stand.0.0 a D node ends w.named.0 (omega (arith, w.small)) in (
-            λ h. (
+      -- What the code is told of a scope that it lists behind the others.
+      abbrev pub ScopeListed : Option ℕ → List ℕ → Type 0
+      ScopeListed r exit = (count i o a : ℕ) (D : Expr) → Node rows count at i o (scope a D) → after ≡ at + node_count (scope a D) → ScopesNamed (scope a D) → actions D ≤ 256 → Lists r so_far (actions D) (transitions i (scope a D)) list exit
+
+      -- Every other field has another tag.
+      module _ (t : tag ≡ 6) (Goal : Type 0) where
+        only_scope : (i : ℕ) (Es : List Expr) → Are i Es → ((a : ℕ) (D : Expr) (Fs : List Expr) → Are i (scope a D ∷ Fs) → Goal) → Goal
+        only_scope i [] w g = absurd (omega (arith, w.stand))
+        only_scope i (action b ∷ Es) w g = absurd (omega (arith, (node_says rows count (action b) w.stand.0.1).tag))
+        only_scope i (sequence E F ∷ Es) w g = absurd (omega (arith, (node_says rows count (sequence E F) w.stand.0.1).tag))
+        only_scope i (choice E F ∷ Es) w g = absurd (omega (arith, (node_says rows count (choice E F) w.stand.0.1).tag))
+        only_scope i (parallel E F ∷ Es) w g = absurd (omega (arith, (node_says rows count (parallel E F) w.stand.0.1).tag))
+        only_scope i (loop E F G ∷ Es) w g = absurd (omega (arith, (node_says rows count (loop E F G) w.stand.0.1).tag))
+        only_scope i (scope a D ∷ Es) w g = g a D Es w
+
+      module _ (a : ℕ) (D : Expr) (Es : List Expr) (i : ℕ) (w : Are i (scope a D ∷ Es)) where
+        ends : after ≡ at + node_count (scope a D)
+        ends = e ∙ (node_says rows count (scope a D) w.stand.0.1).after
+
+        told : (r : Option ℕ) (exit : List ℕ) → ScopeListed r exit → Lists r so_far (actions D) (transitions i (scope a D)) list exit
+        unfolding all_actions actions
+        told r exit lists = lists count i w.stand.0.0 a D w.stand.0.1 ends w.named.0 (omega (arith, w.small))
+
+        one_listed : (m : ℕ) (exit : List ℕ) → ScopeListed (Some m) exit → Now after exit m
+        unfolding all_actions all_transitions actions
+        one_listed m exit lists =
+            let ts = transitions i (scope a D) in
+            let us = all_transitions (i + actions D) Es in
+            let held : Held m so_far (transitions i (scope a D)) list exit = told (Some m) exit lists in (
               i + actions D,
               Es,
               record {
                 stand = operands_at rows count end Es (sym ends) refl w.stand.1;
                 named = w.named.1;
                 small = omega (arith, w.small);
-                held = some_held ts us w.held (told.held h);
-                room = omega (arith, w.room, (told.held h).count, transitions_weight i (scope a D), pairs_append ts us);
+                held = some_held ts us w.held held;
+                room = omega (arith, w.room, held.count, transitions_weight i (scope a D), pairs_append ts us);
               },
-            ),
-            λ h. omega (arith, w.room, told.over h, pairs_append ts us),
-          )
+            )
+
+        one_over : (exit : List ℕ) → ScopeListed None exit → most < n + (few + pairs all)
+        unfolding all_actions all_transitions actions
+        one_over exit lists = omega (arith, w.room, told None exit lists, pairs_append (transitions i (scope a D)) (all_transitions (i + actions D) Es))
+
+      pub scope_listed : (i : ℕ) (Es : List Expr) → Are i Es → tag ≡ 6 → (m : ℕ) (exit : List ℕ) → ScopeListed (Some m) exit → Now after exit m
+      scope_listed i Es w t m exit lists = only_scope t (Now after exit m) i Es w (λ a D Fs v. one_listed a D Fs i v m exit lists)
+
+      pub scope_over : (i : ℕ) (Es : List Expr) → Are i Es → tag ≡ 6 → (exit : List ℕ) → ScopeListed None exit → most < n + (few + pairs all)
+      scope_over i Es w t exit lists = only_scope t (most < n + (few + pairs all)) i Es w (λ a D Fs v. one_over a D Fs i v exit lists)

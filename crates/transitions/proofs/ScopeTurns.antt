@@ -66,6 +66,14 @@ module _ (list found : List ℕ) (t end label count : ℕ) (more : t < end) {all
             counted = omega arith;
           }
 
+  -- There is room for one more.
+  pub room_left : get_or list (3 * t) 0 ≡ label → Gathering list t end label found count all → count < length all
+  room_left e g = go g.left g.part g.counted
+    where
+      go : (us : List Labelled) → Part list t end us → count + length (firsts label us) ≡ length all → count < length all
+      go [] p c = absurd (omega (arith, p.count))
+      go (u ∷ us) p c = omega (arith, ap length (firsts_with label u us (sym (label_at u us p) ∙ e)))
+
   pub none_more_gathered : (get_or list (3 * t) 0 ≡ label → ⊥) → Gathering list t end label found count all → Gathering list (t + 1) end label found count all
   none_more_gathered e g = go g.left g.part g.numbers g.counted
     where
@@ -107,6 +115,16 @@ none_kept entry start end name ts p = record { left = ts; part = p; held = nothi
 -- What the code asks of a label.
 abbrev pub passes : ℕ → ℕ → Bool
 passes name l = not (eqb l name) && not (eqb l (name + 128))
+
+module _ (name l : ℕ) where
+  pub passes_neither : (l ≡ name → ⊥) → (l ≡ name + 128 → ⊥) → passes name l ≡ true
+  passes_neither p q = rw (ne_eqb l name p, ne_eqb l (name + 128) q) refl
+
+  pub stops_name : l ≡ name → passes name l ≡ false
+  stops_name e = rw (eq-eqb l name e) refl
+
+  pub stops_conjugate : (l ≡ name → ⊥) → l ≡ name + 128 → passes name l ≡ false
+  stops_conjugate p e = rw (ne_eqb l name p, eq-eqb l (name + 128) e) refl
 
 module _ (entry : List ℕ) (start : ℕ) (list : List ℕ) (t end name so_far : ℕ) (more : t < end) {ts : List Labelled} where
   pub one_kept : {l a b c : ℕ} {exit : List ℕ} → so_far ≤ t → Stored so_far a b c list exit → l ≡ a → a ≡ get_or list (3 * t) 0 → b ≡ get_or list (3 * t + 1) 0 → c ≡ get_or list (3 * t + 2) 0

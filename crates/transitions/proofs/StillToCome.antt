@@ -1,13 +1,14 @@
 -- A list that grows transition by transition: what it holds and what is still to come are at every turn the same list.
 -- True because a transition that is stored behind those that the list holds was the first of those to come.
-use Prim.Native.Nat.{ℕ, ◌+◌, ◌*◌, ◌≤◌, ◌<◌}
+use Prim.Native.Nat.{ℕ, ◌+◌, ◌*◌, ◌≤◌}
 use native.Mathlib.Omega.{arith}
 use mathlib.Core.Path.{◌≡◌, refl, sym, ◌∙◌, ap}
 use mathlib.Core.List.{List, [], ◌∷◌, ◌++◌, append_assoc, append-nil}
+use Rattle.std.specs.Prelude.{Option, Some, None}
 use lib.ListN.{length, take, length-append}
 use Rattle.algebra.specs.Item.{first}
 use Rattle.algebra.specs.Transitions.{Labelled}
-use Rattle.transitions.specs.inner.Numbers.{flat, second, most}
+use Rattle.transitions.specs.inner.Numbers.{flat, second}
 use Rattle.transitions.specs.inner.Listing.{Stored, Held, Lists, pairs}
 use Rattle.transitions.proofs.FlatNumbers.{flat_append}
 use Rattle.transitions.proofs.Weights.{pairs_append}
@@ -52,26 +53,16 @@ module _ {entry list : List ℕ} {n₀ n : ℕ} {all : List Labelled} where
     long = h.long ∙ w.long;
   }
 
--- What is told of a list: how many it holds, or that the most are too few.
-module _ {m n few : ℕ} {ts : List Labelled} {entry exit : List ℕ} where
-  pub is_held : m ≤ most → Held m n ts entry exit → Lists m n few ts entry exit
-  is_held l h = record { held = λ q. h; over = λ q. absurd (omega arith) }
-
-  pub is_over : most < m → most < n + (few + pairs ts) → Lists m n few ts entry exit
-  is_over l h = record { held = λ q. absurd (omega arith); over = λ q. h }
-
 -- Lists one after another: of the first and of the rest.
-pub held_then : {r m n : ℕ} (few more : ℕ) (xs ys : List Labelled) {entry list exit : List ℕ} → Held m n xs entry list → length xs ≤ few + pairs xs
+pub held_then : (r : Option ℕ) {m n : ℕ} (few more : ℕ) (xs ys : List Labelled) (entry list exit : List ℕ) → Held m n xs entry list → length xs ≤ few + pairs xs
     → Lists r m more ys list exit → Lists r n (few + more) (xs ++ ys) entry exit
-held_then {r} {m} {n} few more xs ys {entry} {list} {exit} h small l = record { held = λ q. both (l.held q); over = λ q. omega (arith, l.over q, h.count, pairs_append xs ys) }
-  where
-    both : Held r m ys list exit → Held r n (xs ++ ys) entry exit
-    both g = record {
-      count = omega (arith, h.count, g.count, length-append xs ys);
-      numbers =
-          g.numbers
-          ∙ ap (λ q. q ++ flat ys) h.numbers
-          ∙ append_assoc (take (3 * n) entry) (flat xs) (flat ys)
-          ∙ ap (λ q. take (3 * n) entry ++ q) (sym (flat_append xs ys));
-      long = g.long ∙ h.long;
-    }
+held_then None few more xs ys entry list exit h small l = omega (arith, h.count, pairs_append xs ys)
+held_then (Some r) {m} {n} few more xs ys entry list exit h small g = record {
+  count = omega (arith, h.count, g.count, length-append xs ys);
+  numbers =
+      g.numbers
+      ∙ ap (λ q. q ++ flat ys) h.numbers
+      ∙ append_assoc (take (3 * n) entry) (flat xs) (flat ys)
+      ∙ ap (λ q. take (3 * n) entry ++ q) (sym (flat_append xs ys));
+  long = g.long ∙ h.long;
+}

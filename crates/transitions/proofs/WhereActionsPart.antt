@@ -5,14 +5,27 @@ use native.Mathlib.Omega.{arith}
 use mathlib.Core.Path.{◌≡◌, refl, sym, ◌∙◌, ap, subst}
 use mathlib.Core.Bool.{Bool, true, false, cond}
 use mathlib.Core.List.{List}
-use lib.Dec.{eqb, ltb, leb}
+use lib.Dec.{ltb}
 use Rattle.algebra.specs.Expr.{Expr, action, sequence, choice, parallel, loop, scope, actions}
 use Rattle.algebra.specs.Transitions.{where_both, part_at_parallel}
 use Rattle.plan.specs.inner.Nodes.{numbers, nodes, node_count}
 use Rattle.plan.specs.inner.Table.{Node, tag_at, after_at}
 use Rattle.plan.proofs.NodeTable.{node_says, sequence_operands, choice_operands, parallel_operands, loop_operands, scope_operand}
 use Rattle.plan.proofs.NodeValues.{node_count_positive}
-use Rattle.transitions.specs.inner.Parting.{first_at, operand_by}
+use Rattle.std.specs.Prelude.{Ok}
+use Rattle.plan.specs.declared.table.Tag.{Tag}
+use Rattle.plan.specs.declared.table.Tag.TheVariants.{Action, Sequence, Choice, Parallel, Loop, Scope}
+use Rattle.plan.specs.inner.Numbers.{spelt, first_at}
+use Rattle.transitions.specs.inner.Parting.{one_of, operand_by}
+
+-- 01's parallel, by its tag.
+abbrev pub is_parallel : Tag → Bool
+is_parallel Action = false
+is_parallel Sequence = false
+is_parallel Choice = false
+is_parallel Parallel = true
+is_parallel Loop = false
+is_parallel Scope = false
 
 -- One of two operands for each action: the same, or not.
 module _ (here in_first in_rest : Bool) (a b : ℕ) where
@@ -71,23 +84,26 @@ module _ (rows : List ℕ) (count : ℕ) where
     second_at : after_at rows (k + 1) ≡ k + 1 + node_count E
     second_at = (node_says rows count E e).after
 
-    -- The operand of an operator with two operands.
-    chosen : (t i : ℕ) → tag_at rows k ≡ t → leb t 1 ≡ false → eqb t 6 ≡ false → eqb t 5 ≡ false → operand_by rows k i ≡ cond (ltb i (n + actions E)) (k + 1) (k + 1 + node_count E)
-    unfolding operand_by
-    chosen t i tag some several two = rw (tag, some, several, two, second_at, node_first F f) refl
+    -- The tag is one of an operator with two operands.
+    abbrev Two : Type 0
+    Two = (i : ℕ) → operand_by rows k i ≡ one_of rows (k + 1) (after_at rows (k + 1)) i
 
-    module _ (t : ℕ) (tag : tag_at rows k ≡ t) (some : leb t 1 ≡ false) (several : eqb t 6 ≡ false) (two : eqb t 5 ≡ false) (W : Expr) (is-here : Bool)
+    -- The operand of an operator with two operands.
+    chosen : (i : ℕ) → Two → operand_by rows k i ≡ cond (ltb i (n + actions E)) (k + 1) (k + 1 + node_count E)
+    chosen i two = two i ∙ rw (second_at, node_first F f) refl
+
+    module _ (two : Two) (W : Expr) (is-here : Bool)
         (w : (i j : ℕ) → part_at_parallel n W i j ≡ where_both (ltb i (n + actions E)) (ltb j (n + actions E)) (part_at_parallel n E i j) (part_at_parallel (n + actions E) F i j) is-here) (i j : ℕ) where
       abbrev m : ℕ
       m = n + actions E
 
       above : k < operand_by rows k i
-      above = rw (chosen t i tag some several two) (behind_own k (node_count E) (ltb i m))
+      above = rw (chosen i two) (behind_own k (node_count E) (ltb i m))
 
       inside : (r : Bool) → operand_by rows k i ≡ operand_by rows k j → ((n at : ℕ) (D : Expr) → Node rows count (operand_by rows k i) n at D → r ≡ part_at_parallel n D i j) → r ≡ part_at_parallel n W i j
       inside r same rest =
-          let ci = chosen t i tag some several two in
-          let cj = chosen t j tag some several two in
+          let ci = chosen i two in
+          let cj = chosen j two in
           both_in_one (is-here) (part_at_parallel n E i j) (part_at_parallel m F i j) (k + 1) (k + 1 + node_count E) r (ltb i m) (ltb j m) (λ z. omega (arith, node_count_positive E)) (sym ci ∙ same ∙ cj)
           (λ z. rest n o E (subst (λ q. Node rows count q n o E) (sym (ci ∙ z)) e))
           (λ z. rest m p F (subst (λ q. Node rows count q m p F) (sym (ci ∙ z)) f))
@@ -95,8 +111,8 @@ module _ (rows : List ℕ) (count : ℕ) where
 
       here : (operand_by rows k j ≡ operand_by rows k i → ⊥) → is-here ≡ part_at_parallel n W i j
       here differ =
-          let ci = chosen t i tag some several two in
-          let cj = chosen t j tag some several two in
+          let ci = chosen i two in
+          let cj = chosen j two in
           not_in_one (is-here) (part_at_parallel n E i j) (part_at_parallel m F i j) (k + 1) (k + 1 + node_count E) (ltb i m) (ltb j m) (λ z. differ (cj ∙ z ∙ sym ci)) ∙ sym (w i j)
 
     -- The operand of a loop.
@@ -141,6 +157,18 @@ module _ (rows : List ℕ) (count : ℕ) where
             (λ z. differ (chosen_in_loop j ∙ z ∙ sym (chosen_in_loop i)))
 
   module _ (k n at i j : ℕ) where
+    two_sequence : tag_at rows k ≡ 2 → (i : ℕ) → operand_by rows k i ≡ one_of rows (k + 1) (after_at rows (k + 1)) i
+    unfolding operand_by
+    two_sequence e i = rw e refl
+
+    two_choice : tag_at rows k ≡ 3 → (i : ℕ) → operand_by rows k i ≡ one_of rows (k + 1) (after_at rows (k + 1)) i
+    unfolding operand_by
+    two_choice e i = rw e refl
+
+    two_parallel : tag_at rows k ≡ 4 → (i : ℕ) → operand_by rows k i ≡ one_of rows (k + 1) (after_at rows (k + 1)) i
+    unfolding operand_by
+    two_parallel e i = rw e refl
+
     abbrev Inside : Bool → Type 0
     Inside r = (n at : ℕ) (D : Expr) → Node rows count (operand_by rows k i) n at D → r ≡ part_at_parallel n D i j
 
@@ -158,13 +186,13 @@ module _ (rows : List ℕ) (count : ℕ) where
     parts_alone (action l) w h = refl
     parts_alone (sequence E F) w h =
         let (e, f) = sequence_operands rows count E F w in
-        absurd (omega (arith, above k n E F e f 2 (node_says rows count (sequence E F) w).tag refl refl refl (sequence E F) false (λ i j. refl) i j))
+        absurd (omega (arith, above k n E F e f (two_sequence (node_says rows count (sequence E F) w).tag) (sequence E F) false (λ i j. refl) i j))
     parts_alone (choice E F) w h =
         let (e, f) = choice_operands rows count E F w in
-        absurd (omega (arith, above k n E F e f 3 (node_says rows count (choice E F) w).tag refl refl refl (choice E F) false (λ i j. refl) i j))
+        absurd (omega (arith, above k n E F e f (two_choice (node_says rows count (choice E F) w).tag) (choice E F) false (λ i j. refl) i j))
     parts_alone (parallel E F) w h =
         let (e, f) = parallel_operands rows count E F w in
-        absurd (omega (arith, above k n E F e f 4 (node_says rows count (parallel E F) w).tag refl refl refl (parallel E F) true (λ i j. refl) i j))
+        absurd (omega (arith, above k n E F e f (two_parallel (node_says rows count (parallel E F) w).tag) (parallel E F) true (λ i j. refl) i j))
     parts_alone (loop E F G) w h =
         let ((e, f), g) = loop_operands rows count E F G w in
         absurd (omega (arith, loop_above k n E F e f G g (node_says rows count (loop E F G) w).tag i j))
@@ -176,40 +204,41 @@ module _ (rows : List ℕ) (count : ℕ) where
     parts_inside (action l) w r h same rest = absurd (omega (arith, action_operand l i w))
     parts_inside (sequence E F) w r h same rest =
         let (e, f) = sequence_operands rows count E F w in
-        inside k n E F e f 2 (node_says rows count (sequence E F) w).tag refl refl refl (sequence E F) false (λ i j. refl) i j r same rest
+        inside k n E F e f (two_sequence (node_says rows count (sequence E F) w).tag) (sequence E F) false (λ i j. refl) i j r same rest
     parts_inside (choice E F) w r h same rest =
         let (e, f) = choice_operands rows count E F w in
-        inside k n E F e f 3 (node_says rows count (choice E F) w).tag refl refl refl (choice E F) false (λ i j. refl) i j r same rest
+        inside k n E F e f (two_choice (node_says rows count (choice E F) w).tag) (choice E F) false (λ i j. refl) i j r same rest
     parts_inside (parallel E F) w r h same rest =
         let (e, f) = parallel_operands rows count E F w in
-        inside k n E F e f 4 (node_says rows count (parallel E F) w).tag refl refl refl (parallel E F) true (λ i j. refl) i j r same rest
+        inside k n E F e f (two_parallel (node_says rows count (parallel E F) w).tag) (parallel E F) true (λ i j. refl) i j r same rest
     parts_inside (loop E F G) w r h same rest =
         let ((e, f), g) = loop_operands rows count E F G w in
         loop_inside k n E F e f G g (node_says rows count (loop E F G) w).tag i j r same rest
     parts_inside (scope a E) w r h same rest =
         rest n (at + 4) E (subst (λ q. Node rows count q n (at + 4) E) (sym (scope_operand_by a i E w)) (scope_operand rows count E w))
 
-    -- They part here.
-    parts_here : (E : Expr) → Node rows count k n at E → (operand_by rows k j ≡ operand_by rows k i → ⊥) → eqb (tag_at rows k) 4 ≡ part_at_parallel n E i j
-    unfolding part_at_parallel
-    parts_here (action l) w differ = absurd (differ (action_operand l j w ∙ sym (action_operand l i w)))
-    parts_here (sequence E F) w differ =
-        let (e, f) = sequence_operands rows count E F w in
-        let tag = (node_says rows count (sequence E F) w).tag in
-        rw tag (here k n E F e f 2 tag refl refl refl (sequence E F) false (λ i j. refl) i j differ)
-    parts_here (choice E F) w differ =
-        let (e, f) = choice_operands rows count E F w in
-        let tag = (node_says rows count (choice E F) w).tag in
-        rw tag (here k n E F e f 3 tag refl refl refl (choice E F) false (λ i j. refl) i j differ)
-    parts_here (parallel E F) w differ =
-        let (e, f) = parallel_operands rows count E F w in
-        let tag = (node_says rows count (parallel E F) w).tag in
-        rw tag (here k n E F e f 4 tag refl refl refl (parallel E F) true (λ i j. refl) i j differ)
-    parts_here (loop E F G) w differ =
-        let ((e, f), g) = loop_operands rows count E F G w in
-        let tag = (node_says rows count (loop E F G) w).tag in
-        rw tag (loop_here k n E F e f G g tag i j differ)
-    parts_here (scope a E) w differ = absurd (differ (scope_operand_by a j E w ∙ sym (scope_operand_by a i E w)))
+    -- They part here, and the code has told by the tag whether the node is a parallel.
+    module _ (r : Bool) (told : (g : Tag) → spelt (tag_at rows k) ≡ Ok g → r ≡ is_parallel g) where
+      parts_here : (E : Expr) → Node rows count k n at E → (operand_by rows k j ≡ operand_by rows k i → ⊥) → r ≡ part_at_parallel n E i j
+      unfolding part_at_parallel
+      parts_here (action l) w differ = absurd (differ (action_operand l j w ∙ sym (action_operand l i w)))
+      parts_here (sequence E F) w differ =
+          let (e, f) = sequence_operands rows count E F w in
+          let tag = (node_says rows count (sequence E F) w).tag in
+          told Sequence (ap spelt tag) ∙ here k n E F e f (two_sequence tag) (sequence E F) false (λ i j. refl) i j differ
+      parts_here (choice E F) w differ =
+          let (e, f) = choice_operands rows count E F w in
+          let tag = (node_says rows count (choice E F) w).tag in
+          told Choice (ap spelt tag) ∙ here k n E F e f (two_choice tag) (choice E F) false (λ i j. refl) i j differ
+      parts_here (parallel E F) w differ =
+          let (e, f) = parallel_operands rows count E F w in
+          let tag = (node_says rows count (parallel E F) w).tag in
+          told Parallel (ap spelt tag) ∙ here k n E F e f (two_parallel tag) (parallel E F) true (λ i j. refl) i j differ
+      parts_here (loop E F G) w differ =
+          let ((e, f), g) = loop_operands rows count E F G w in
+          let tag = (node_says rows count (loop E F G) w).tag in
+          told Loop (ap spelt tag) ∙ loop_here k n E F e f G g tag i j differ
+      parts_here (scope a E) w differ = absurd (differ (scope_operand_by a j E w ∙ sym (scope_operand_by a i E w)))
 
 -- The same as the code has it, which holds the operands' numbers.
 module _ (rows : List ℕ) (count k n at i j : ℕ) (E : Expr) (w : Node rows count k n at E) {next : ℕ} (o : next ≡ operand_by rows k i) where
@@ -221,5 +250,5 @@ module _ (rows : List ℕ) (count k n at i j : ℕ) (E : Expr) (w : Node rows co
       parts_inside rows count k n at i j E w r (omega arith) (sym o ∙ sym e ∙ p)
       (λ m o' D v. rest count m o' D (subst (λ q. Node rows count q m o' D) (sym o) v))
 
-  pub part_here : {other : ℕ} → other ≡ operand_by rows k j → (other ≡ next → ⊥) → {tag : ℕ} → tag ≡ tag_at rows k → eqb tag 4 ≡ part_at_parallel n E i j
-  part_here p differ t = ap (λ q. eqb q 4) t ∙ parts_here rows count k n at i j E w (λ e. differ (p ∙ e ∙ sym o))
+  pub part_here : {other : ℕ} → other ≡ operand_by rows k j → (other ≡ next → ⊥) → (r : Bool) → ((g : Tag) → spelt (tag_at rows k) ≡ Ok g → r ≡ is_parallel g) → r ≡ part_at_parallel n E i j
+  part_here p differ r told = parts_here rows count k n at i j r told E w (λ e. differ (p ∙ e ∙ sym o))

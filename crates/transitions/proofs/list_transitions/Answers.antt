@@ -1,34 +1,25 @@
--- `list_transitions` meets its contract: the plan is listed as the one operand of the table, which is cut off behind its nodes.
+-- `list_transitions` meets its contract: the plan is listed as the one operand of the table.
 -- Assumes nothing.
-use Prim.Native.Nat.{◌*◌}
-use native.Mathlib.Omega.{arith}
-use mathlib.Core.Path.{sym}
-use lib.ListN.{take}
-use lib.Seq.{length-take-le}
+use Rattle.std.proofs.Common.{length}
+use Rattle.plan.specs.inner.Numbers.{table_numbers}
 use Rattle.plan.proofs.Scopes.{named_scopes}
-use Rattle.transitions.proofs.WholeLists.{table_cut, plan_too_many, plan_listed}
+use Rattle.transitions.specs.inner.Numbers.{list_numbers}
+use Rattle.transitions.proofs.WholeLists.{plan_listed, plan_too_many, plan_over}
 use Rattle.transitions.proofs.list_transitions.Goals as goal
+use Rattle.transitions.proofs.list_transitions.Goals.{in_default-via-in-Some+else-n-le-TRANSITION_LIMIT, in_default-via-in_default}
 
-pub slice_bounds-list_nodes-end : goal.slice_bounds-list_nodes-end
-slice_bounds-list_nodes-end c =
-    let a = c.args in sym (length-take-le (6 * a.nodes) a.rows.now (omega arith))
-
-pub list_nodes-n-requires : goal.list_nodes-n-requires
-list_nodes-n-requires c =
-    let a = c.args in omega (arith, length-take-le (6 * a.nodes) a.rows.now (omega arith))
-
-pub returns-then-n-le-TRANSITION_LIMIT : goal.returns-then-n-le-TRANSITION_LIMIT
-returns-then-n-le-TRANSITION_LIMIT c =
+pub returns-in-Some-clause-lists : goal.returns-in-Some-clause-lists
+returns-in-Some-clause-lists c =
     let a = c.args in
-    record {
-      fits = c.if-n-le-TRANSITION_LIMIT.true;
-      lists = λ E t few named. plan_listed (take (6 * a.nodes) a.rows.now) a.nodes E (table_cut t) (named_scopes E named) few c.list_nodes-n.ensures c.if-n-le-TRANSITION_LIMIT.true;
-    }
+    λ E t few named. plan_listed (table_numbers a.rows.now) (length a.rows.now) E t (named_scopes E named) few (list_numbers a.list.now) (list_numbers c.list_nodes.new.list) c.in-Some.ensures.lists
 
-pub returns-else-n-le-TRANSITION_LIMIT : goal.returns-else-n-le-TRANSITION_LIMIT
-returns-else-n-le-TRANSITION_LIMIT c =
+pub returns-in_default-clause-lists : goal.returns-in_default-clause-lists
+returns-in_default-clause-lists c =
     let a = c.args in
-    record {
-      fits = tt;
-      lists = λ E t few named. plan_too_many (take (6 * a.nodes) a.rows.now) a.nodes E (table_cut t) (named_scopes E named) few c.list_nodes-n.ensures c.if-n-le-TRANSITION_LIMIT.false;
-    }
+    λ E t few named.
+    elim c.in_default.branch [
+      | in_default-via-in-Some+else-n-le-TRANSITION_LIMIT w ↦
+          plan_too_many (table_numbers a.rows.now) (length a.rows.now) E t (named_scopes E named) few (list_numbers a.list.now) (list_numbers c.list_nodes.new.list) w.in-Some.ensures.lists w.if-n-le-TRANSITION_LIMIT.false
+      | in_default-via-in_default w ↦
+          plan_over (table_numbers a.rows.now) (length a.rows.now) E t (named_scopes E named) few (list_numbers a.list.now) (list_numbers c.list_nodes.new.list) w.in_default.ensures.lists
+    ]

@@ -1,5 +1,5 @@
 -- What the inner functions leave in the list: these contracts follow the code.
-use Rattle.std.specs.Prelude.{ℕ, ◌+◌, ◌*◌, ◌≤◌, ◌<◌, ◌≡◌, List, [], ◌∷◌, ◌++◌, map, Bool, cond, length, get_or, take}
+use Rattle.std.specs.Prelude.{ℕ, ◌+◌, ◌*◌, ◌≤◌, ◌<◌, ◌≡◌, List, [], ◌∷◌, ◌++◌, map, Bool, cond, length, get_or, take, Option, Some, None}
 use Rattle.algebra.specs.Expr.{Expr, actions}
 use Rattle.algebra.specs.Item.{Item, one, two, first}
 use Rattle.algebra.specs.Scopes.{ScopesNamed}
@@ -45,9 +45,9 @@ pub record Held (m n : ℕ) (ts : List Labelled) (entry exit : List ℕ) : Type 
   pub long : length exit ≡ length entry
 
 -- Behind the first n transitions these are listed; or the most are too few for n, for so many single actions, and for the pairs.
-pub record Lists (m n few : ℕ) (ts : List Labelled) (entry exit : List ℕ) : Type 0 where
-  pub held : m ≤ most → Held m n ts entry exit
-  pub over : most < m → most < n + (few + pairs ts)
+abbrev pub Lists : Option ℕ → ℕ → ℕ → List Labelled → List ℕ → List ℕ → Type 0
+Lists (Some m) n few ts entry exit = Held m n ts entry exit
+Lists None n few ts entry exit = most < n + (few + pairs ts)
 
 abbrev pub joined_pair : ℕ → ℕ → Labelled
 joined_pair i j = record { label = 0; item = two i j }

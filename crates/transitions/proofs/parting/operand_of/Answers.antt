@@ -1,35 +1,71 @@
--- `operand_of` meets its contract: each return answers one case of `operand_by`.
+-- `operand_of` meets its contract: each return answers one case of `by_tag`.
 -- Assumes nothing.
-use native.Mathlib.Omega.{arith}
-use borrow.Author.Rules.{rules}
-use Rattle.transitions.proofs.OperandByTag.{tagged_within, no_operand, only_operand, first_operand, second_operand, body_operand, last_operand}
+use Rattle.std.proofs.Common.{◌∙◌, Ok, arith, sym, ap}
+use Rattle.plan.specs.inner.Numbers.{table_numbers}
+use Rattle.plan.proofs.NodeRows.{table_length}
+use Rattle.transitions.proofs.OperandByTag.{tag_told, by_its_tag, tagged_within, first_operand, second_operand, begin_operand, body_operand, end_operand}
 use Rattle.transitions.proofs.parting.operand_of.Goals as goal
 
-pub returns-then-tag-le-ACTION : goal.returns-then-tag-le-ACTION
-returns-then-tag-le-ACTION c =
-    let a = c.args in (no_operand a.rows.now a.k a.i c.row_number-tag.ensures.0 c.if-tag-le-ACTION.true, search rules)
+pub returns-in_default-clause-operand : goal.returns-in_default-clause-operand
+returns-in_default-clause-operand c =
+    let rows = table_numbers c.args.rows.now in
+    sym (by_its_tag rows c.args.k c.args.i (tag_told rows c.args.k c.row_at.ensures c.tag.ensures ∙ c.in_default.is))
 
-pub returns-then-tag-eq-SCOPE : goal.returns-then-tag-eq-SCOPE
-returns-then-tag-eq-SCOPE c =
-    let a = c.args in
-    (only_operand a.rows.now a.k a.i c.row_number-tag.ensures.0 c.if-tag-le-ACTION.false c.if-tag-eq-SCOPE.true, omega (arith, tagged_within a.rows.now a.k a.i c.row_number-tag.ensures.0 c.if-tag-le-ACTION.false))
+pub returns-in-Action-clause-operand : goal.returns-in-Action-clause-operand
+returns-in-Action-clause-operand c =
+    let rows = table_numbers c.args.rows.now in
+    sym (by_its_tag rows c.args.k c.args.i (tag_told rows c.args.k c.row_at.ensures c.tag.ensures ∙ c.in-Ok.is ∙ ap Ok c.in-Action.is))
 
-pub returns-then-i-row_number : goal.returns-then-i-row_number
-returns-then-i-row_number c =
-    let a = c.args in
-    (first_operand a.rows.now a.k a.i c.row_number-tag.ensures.0 c.if-tag-le-ACTION.false c.if-tag-eq-SCOPE.false c.row_number-second.ensures.0 c.row_number.ensures.0 c.if-i-row_number.true, omega (arith, tagged_within a.rows.now a.k a.i c.row_number-tag.ensures.0 c.if-tag-le-ACTION.false))
+pub returns-in-Scope-clause-operand : goal.returns-in-Scope-clause-operand
+returns-in-Scope-clause-operand c =
+    let rows = table_numbers c.args.rows.now in
+    sym (by_its_tag rows c.args.k c.args.i (tag_told rows c.args.k c.row_at.ensures c.tag.ensures ∙ c.in-Ok.is ∙ ap Ok c.in-Scope.is))
 
-pub returns-then-i-row_number-2 : goal.returns-then-i-row_number-2
-returns-then-i-row_number-2 c =
-    let a = c.args in
-    (body_operand a.rows.now a.k a.i c.row_number-tag.ensures.0 c.if-tag-le-ACTION.false c.if-tag-eq-SCOPE.false c.row_number-second.ensures.0 c.row_number.ensures.0 c.if-i-row_number.false c.if-tag-eq-LOOP.true c.row_number-third.ensures.0 c.row_number-then-tag-eq-LOOP.ensures.0 c.if-i-row_number-2.true, search rules)
+pub returns-in-Scope-clause-fits : goal.returns-in-Scope-clause-fits
+returns-in-Scope-clause-fits c =
+    let rows = table_numbers c.args.rows.now in
+    omega (arith, table_length c.args.rows.now, tagged_within rows c.args.k _ (tag_told rows c.args.k c.row_at.ensures c.tag.ensures ∙ c.in-Ok.is))
 
-pub returns-then-tag-eq-LOOP : goal.returns-then-tag-eq-LOOP
-returns-then-tag-eq-LOOP c =
-    let a = c.args in
-    (last_operand a.rows.now a.k a.i c.row_number-tag.ensures.0 c.if-tag-le-ACTION.false c.if-tag-eq-SCOPE.false c.row_number-second.ensures.0 c.row_number.ensures.0 c.if-i-row_number.false c.if-tag-eq-LOOP.true c.row_number-third.ensures.0 c.row_number-then-tag-eq-LOOP.ensures.0 c.if-i-row_number-2.false, search rules)
+-- A loop.
+pub returns-then-i-first-clause-operand : goal.returns-then-i-first-clause-operand
+returns-then-i-first-clause-operand c =
+    let rows = table_numbers c.args.rows.now in
+    begin_operand rows c.args.k c.args.i c.after-second.ensures.number c.first.ensures.number
+    (tag_told rows c.args.k c.row_at.ensures c.tag.ensures ∙ c.in-Ok.is ∙ ap Ok c.in-Loop.is) c.if-i-first.true
 
-pub returns : goal.returns
-returns c =
-    let a = c.args in
-    (second_operand a.rows.now a.k a.i c.row_number-tag.ensures.0 c.if-tag-le-ACTION.false c.if-tag-eq-SCOPE.false c.row_number-second.ensures.0 c.row_number.ensures.0 c.if-i-row_number.false c.if-tag-eq-LOOP.false, search rules)
+pub returns-then-i-first-clause-fits : goal.returns-then-i-first-clause-fits
+returns-then-i-first-clause-fits c =
+    let rows = table_numbers c.args.rows.now in
+    omega (arith, table_length c.args.rows.now, tagged_within rows c.args.k _ (tag_told rows c.args.k c.row_at.ensures c.tag.ensures ∙ c.in-Ok.is))
+
+pub returns-then-i-first-2-clause-operand : goal.returns-then-i-first-2-clause-operand
+returns-then-i-first-2-clause-operand c =
+    let rows = table_numbers c.args.rows.now in
+    body_operand rows c.args.k c.args.i c.after-second.ensures.number c.first.ensures.number
+    (tag_told rows c.args.k c.row_at.ensures c.tag.ensures ∙ c.in-Ok.is ∙ ap Ok c.in-Loop.is) c.if-i-first.false
+    c.after-third.ensures.number c.first-in-Loop.ensures.number c.if-i-first-2.true
+
+pub returns-else-i-first-2-clause-operand : goal.returns-else-i-first-2-clause-operand
+returns-else-i-first-2-clause-operand c =
+    let rows = table_numbers c.args.rows.now in
+    end_operand rows c.args.k c.args.i c.after-second.ensures.number c.first.ensures.number
+    (tag_told rows c.args.k c.row_at.ensures c.tag.ensures ∙ c.in-Ok.is ∙ ap Ok c.in-Loop.is) c.if-i-first.false
+    c.after-third.ensures.number c.first-in-Loop.ensures.number c.if-i-first-2.false
+
+-- An operator with two operands.
+pub returns-then-i-first-3-clause-operand : goal.returns-then-i-first-3-clause-operand
+returns-then-i-first-3-clause-operand c =
+    let rows = table_numbers c.args.rows.now in
+    first_operand rows c.args.k c.args.i c.after-second-in-Sequence.ensures.number c.first-in-Sequence.ensures.number c.in-Ok.tag
+    (tag_told rows c.args.k c.row_at.ensures c.tag.ensures ∙ c.in-Ok.is) c.in-Sequence.is c.if-i-first-3.true
+
+pub returns-then-i-first-3-clause-fits : goal.returns-then-i-first-3-clause-fits
+returns-then-i-first-3-clause-fits c =
+    let rows = table_numbers c.args.rows.now in
+    omega (arith, table_length c.args.rows.now, tagged_within rows c.args.k _ (tag_told rows c.args.k c.row_at.ensures c.tag.ensures ∙ c.in-Ok.is))
+
+pub returns-else-i-first-3-clause-operand : goal.returns-else-i-first-3-clause-operand
+returns-else-i-first-3-clause-operand c =
+    let rows = table_numbers c.args.rows.now in
+    second_operand rows c.args.k c.args.i c.after-second-in-Sequence.ensures.number c.first-in-Sequence.ensures.number c.in-Ok.tag
+    (tag_told rows c.args.k c.row_at.ensures c.tag.ensures ∙ c.in-Ok.is) c.in-Sequence.is c.if-i-first-3.false

@@ -1,36 +1,43 @@
 -- `gather` meets its contract. The loop's invariant: what is found and what is to come are the first actions of all with the label.
--- The measure is what is left of the part. Assumes nothing.
-use native.Mathlib.Omega.{arith}
-use mathlib.Core.Path.{sym, ◌∙◌}
-use borrow.Author.Rules.{rules}
-use Rattle.transitions.proofs.ScopeTurns.{none_gathered, one_gathered, none_more_gathered, all_gathered}
+-- Assumes nothing.
+use Rattle.std.proofs.Common.{length, arith, sym, ap, ◌∙◌}
+use lib.ListN.{length-set}
+use Rattle.transitions.specs.inner.Numbers.{list_numbers}
+use Rattle.transitions.proofs.FlatNumbers.{label_of, first_of}
+use Rattle.transitions.proofs.ScopeTurns.{room_left, one_gathered, none_more_gathered, all_gathered}
 use Rattle.transitions.proofs.scope.gather.Goals as goal
+use Rattle.transitions.proofs.scope.gather.Goals.{then-from-label+then-count-lt256, else-from-label, else-from-label-via-then-from-label+else-count-lt256, else-from-label-via-else-from-label}
 
-pub loop-t-init : goal.loop-t-init
-loop-t-init c =
-    (search rules, search rules, λ ts p few. let a = c.args in none_gathered a.list.now a.found.now a.start a.end a.label ts p)
-
-pub loop-t-preserved-then-wide-label : goal.loop-t-preserved-then-wide-label
-loop-t-preserved-then-wide-label c =
+pub loop-transition-preserved : goal.loop-transition-preserved
+loop-transition-preserved c =
     let a = c.args in
-    let l = c.loop-t in (
-      search rules,
-      search rules,
-      λ ts p few.
-          one_gathered a.list.now l.found l.t a.end a.label l.count c.loop-t-test.true (omega (arith, c.put_number-arg-1.given)) few
-          (sym c.number_at.ensures ∙ sym c.wide.ensures.0 ∙ c.if-wide-label.true) c.number_at-then-wide-label.ensures c.put_number.ensures (l.invariant.2 ts p few),
-    )
+    let l = c.loop-transition in
+    let h = c.loop-transition-test.true in
+    let part = list_numbers a.part.now in
+    let size = length a.part.now in
+    let label = label_of a.part.now l.transition-index _ h ∙ sym c.from.ensures in
+    elim c.if-from-label.branch [
+      | then-from-label+then-count-lt256 w ↦ (
+        omega arith,
+        λ ts p few.
+            rw w.count-is
+            (one_gathered part l.found l.transition-index size a.label l.count h
+            (sym (length-set l.found l.count _) ∙ ap length (sym w.found-is) ∙ c.if-from-label.array_long) few
+            (label ∙ w.if-from-label.true) (sym (first_of a.part.now l.transition-index _ h)) w.found-is (l.invariant.1 ts p few)),
+      )
+      | else-from-label w ↦ (
+        omega arith,
+        λ ts p few.
+            rw (w.found-is, w.count-is)
+            (none_more_gathered part l.found l.transition-index size a.label l.count h
+            (λ e. elim w.else-from-label.branch [
+              | else-from-label-via-then-from-label+else-count-lt256 v ↦ omega (arith, room_left part l.found l.transition-index size a.label l.count h e (l.invariant.1 ts p few))
+              | else-from-label-via-else-from-label v ↦ v.if-from-label.false (sym label ∙ e)
+            ])
+            (l.invariant.1 ts p few)),
+      )
+    ]
 
-pub loop-t-preserved : goal.loop-t-preserved
-loop-t-preserved c =
-    let a = c.args in
-    let l = c.loop-t in (
-      search rules,
-      search rules,
-      λ ts p few.
-          none_more_gathered a.list.now l.found l.t a.end a.label l.count c.loop-t-test.true (λ z. c.if-wide-label.false (c.wide.ensures.0 ∙ c.number_at.ensures ∙ z)) (l.invariant.2 ts p few),
-    )
-
-pub returns : goal.returns
-returns c =
-    λ ts p few. all_gathered c.loop-t-test.false (c.loop-t.invariant.2 ts p few)
+pub returns-clause-finds : goal.returns-clause-finds
+returns-clause-finds c =
+    λ ts p few. all_gathered c.loop-transition-test.false (c.loop-transition.invariant.1 ts p few)

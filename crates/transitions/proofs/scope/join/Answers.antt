@@ -1,36 +1,33 @@
 -- `join` meets its contract. The loop's invariant: what is held and what is to come are all pairs.
--- The measure is what is left of the actions. Assumes nothing.
-use borrow.Author.Rules.{rules}
+-- Assumes nothing.
+use Rattle.std.proofs.Common.{arith, refl}
 use Rattle.algebra.specs.Transitions.{part_at_parallel}
-use Rattle.transitions.specs.inner.Listing.{pairs_of}
-use Rattle.transitions.proofs.StillToCome.{nothing_yet, is_held, is_over}
+use Rattle.transitions.specs.inner.Numbers.{list_numbers}
 use Rattle.transitions.proofs.JoinTurns.{one_more_joined, no_more_room, all_pairs_joined}
 use Rattle.transitions.proofs.scope.join.Goals as goal
 
-pub loop-t-init : goal.loop-t-init
-loop-t-init c =
-    (search rules, search rules, λ nodes f at E is js w v x. nothing_yet c.args.list.now c.args.n (pairs_of (part_at_parallel f E) is js))
-
-pub returns-then-m-gt-MOST : goal.returns-then-m-gt-MOST
-returns-then-m-gt-MOST c =
+pub returns-in_err-so_far-clause-lists : goal.returns-in_err-so_far-clause-lists
+returns-in_err-so_far-clause-lists c =
     let a = c.args in
-    let l = c.loop-t in
-    λ nodes f at E is js w v x.
-    is_over c.if-m-gt-MOST.true
-    (no_more_room (part_at_parallel f E) a.list.now l.list a.left.now is js a.n l.so_far l.t a.lefts v c.loop-t-test.true c.number_at-i.ensures ((c.join_one-m.ensures nodes f at E js w x).over c.if-m-gt-MOST.true) (l.invariant.2 nodes f at E is js w v x))
+    let l = c.loop-i in
+    λ nodes f at E w.
+    rw c.from_residual.ensures
+    (no_more_room (part_at_parallel f E) (list_numbers a.list.now) (list_numbers l.list) a.left.now a.right.now a.n l.so_far l.i-index c.loop-i-test.true refl
+    (c.in_err-so_far.ensures.lists nodes f at E w) (l.invariant.2 nodes f at E w))
 
-pub loop-t-preserved : goal.loop-t-preserved
-loop-t-preserved c =
+pub loop-i-preserved : goal.loop-i-preserved
+loop-i-preserved c =
     let a = c.args in
-    let l = c.loop-t in (
-      search rules,
-      search rules,
-      λ nodes f at E is js w v x.
-          one_more_joined (part_at_parallel f E) a.list.now l.list a.left.now is js a.n l.so_far l.t a.lefts v c.loop-t-test.true c.number_at-i.ensures ((c.join_one-m.ensures nodes f at E js w x).held c.if-m-gt-MOST.false) (l.invariant.2 nodes f at E is js w v x),
+    let l = c.loop-i in
+    let e = c.in_ok-so_far.ensures in (
+      omega (arith, e.fits),
+      omega (arith, e.fits),
+      λ nodes f at E w.
+          one_more_joined (part_at_parallel f E) (list_numbers a.list.now) (list_numbers l.list) a.left.now a.right.now a.n l.so_far l.i-index c.loop-i-test.true refl (e.lists nodes f at E w) (l.invariant.2 nodes f at E w),
     )
 
-pub returns : goal.returns
-returns c =
+pub returns-clause-lists : goal.returns-clause-lists
+returns-clause-lists c =
     let a = c.args in
-    let l = c.loop-t in
-    λ nodes f at E is js w v x. is_held l.invariant.0 (all_pairs_joined (part_at_parallel f E) a.list.now l.list a.left.now is js a.n l.so_far l.t a.lefts v c.loop-t-test.false (l.invariant.2 nodes f at E is js w v x))
+    let l = c.loop-i in
+    λ nodes f at E w. all_pairs_joined (part_at_parallel f E) (list_numbers a.list.now) (list_numbers l.list) a.left.now a.right.now a.n l.so_far l.i-index c.loop-i-test.false (l.invariant.2 nodes f at E w)

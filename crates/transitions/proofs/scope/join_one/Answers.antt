@@ -1,67 +1,61 @@
 -- `join_one` meets its contract. The loop's invariant: what is held and what is to come are all pairs of the action, and what was told last
--- of the parting of actions is true. The measure is what is left of the others. Assumes nothing.
-use native.Mathlib.Omega.{arith}
-use mathlib.Core.Path.{sym, subst}
-use borrow.Author.Rules.{rules}
+-- of the parting of actions is true. Assumes nothing.
+use Rattle.std.proofs.Common.{arith, rules, refl, sym, subst}
 use Rattle.algebra.specs.Transitions.{part_at_parallel}
+use Rattle.plan.specs.inner.Numbers.{table_numbers}
+use Rattle.transitions.specs.inner.Numbers.{list_numbers}
 use Rattle.transitions.specs.inner.Parting.{Parts}
-use Rattle.transitions.specs.inner.Listing.{pairs_with}
-use Rattle.transitions.proofs.StillToCome.{nothing_yet, is_held, is_over}
+use Rattle.transitions.proofs.FlatNumbers.{transition_stored}
 use Rattle.transitions.proofs.JoinTurns.{told, one_joined, none_joined, no_room, all_joined}
 use Rattle.transitions.proofs.scope.join_one.Goals as goal
-
-pub loop-u-init : goal.loop-u-init
-loop-u-init c =
-    let a = c.args in (
-      search rules,
-      search rules,
-      λ j lo hi count n at E w. absurd (omega arith),
-      λ nodes f at E js w v. nothing_yet a.list.now a.n (pairs_with (part_at_parallel f E) a.i js),
-    )
+use Rattle.transitions.proofs.scope.join_one.Goals.{then-parting+in_ok-so_far, else-parting}
 
 pub part_at-parting-requires : goal.part_at-parting-requires
 part_at-parting-requires c =
     let a = c.args in
-    let l = c.loop-u in
-    (search rules, search rules, search rules, subst (λ i. Parts a.rows.now a.k i l.parting) (sym c.wide.ensures.0) l.invariant.2)
+    let l = c.loop-j in
+    (search rules, search rules, omega (arith, c.type_inv.j), subst (λ i. Parts (table_numbers a.rows.now) a.k i l.parting) (sym c.from.ensures) l.invariant.2)
 
-pub returns-then-so_far-ge-MOST : goal.returns-then-so_far-ge-MOST
-returns-then-so_far-ge-MOST c =
+pub returns-in_err-so_far-clause-lists : goal.returns-in_err-so_far-clause-lists
+returns-in_err-so_far-clause-lists c =
     let a = c.args in
-    let l = c.loop-u in (
-    λ nodes f at E js w v.
-    is_over (omega arith)
-    (no_room (part_at_parallel f E) a.list.now l.list a.others.now js a.n l.so_far l.u a.count a.i v c.loop-u-test.true c.number_at-j.ensures
-    (told (part_at_parallel f E) (c.part_at-parting.ensures.2 c.wide-in-loop-u.result c.part_at-parting.ensures.0 c.part_at-parting.ensures.1 nodes f at E w) c.wide.ensures.0 c.wide-in-loop-u.ensures.0 c.if-parting.true) c.if-so_far-ge-MOST.true (l.invariant.3 nodes f at E js w v))
-    )
+    let l = c.loop-j in
+    let t = c.part_at-parting.ensures in
+    λ nodes f at E w.
+    rw c.from_residual.ensures
+    (no_room (part_at_parallel f E) (list_numbers a.list.now) (list_numbers l.list) a.others.now a.n l.so_far l.j-index a.i c.loop-j-test.true refl
+    (told (part_at_parallel f E) (t.2 c.from-in-loop-j.result t.0 t.1 nodes f at E w) c.from.ensures c.from-in-loop-j.ensures c.if-parting.true) (c.in_err-so_far.ensures.full refl) (l.invariant.3 nodes f at E w))
 
-pub loop-u-preserved-then-parting : goal.loop-u-preserved-then-parting
-loop-u-preserved-then-parting c =
+pub loop-j-preserved : goal.loop-j-preserved
+loop-j-preserved c =
     let a = c.args in
-    let l = c.loop-u in (
-      search rules,
-      search rules,
-      subst (λ i. Parts a.rows.now a.k i c.part_at-parting.result) c.wide.ensures.0 c.part_at-parting.ensures.2,
-      λ nodes f at E js w v.
-          one_joined (part_at_parallel f E) a.list.now l.list a.others.now js a.n l.so_far l.u a.count a.i v c.loop-u-test.true c.number_at-j.ensures
-          (told (part_at_parallel f E) (c.part_at-parting.ensures.2 c.wide-in-loop-u.result c.part_at-parting.ensures.0 c.part_at-parting.ensures.1 nodes f at E w) c.wide.ensures.0 c.wide-in-loop-u.ensures.0 c.if-parting.true) c.put.ensures (l.invariant.3 nodes f at E js w v),
-    )
+    let l = c.loop-j in
+    let t = c.part_at-parting.ensures in
+    let parts = subst (λ i. Parts (table_numbers a.rows.now) a.k i c.part_at-parting.result) c.from.ensures t.2 in
+    elim c.if-parting.branch [
+      | then-parting+in_ok-so_far w ↦ let e = w.in_ok-so_far.ensures.added in (
+        omega (arith, e),
+        omega (arith, e),
+        parts,
+        λ nodes f at E v.
+            rw (w.list-is, w.so_far-is, e.0, e.2)
+            (one_joined (part_at_parallel f E) (list_numbers a.list.now) (list_numbers l.list) a.others.now a.n l.so_far l.j-index a.i c.loop-j-test.true refl
+            (told (part_at_parallel f E) (t.2 c.from-in-loop-j.result t.0 t.1 nodes f at E v) c.from.ensures c.from-in-loop-j.ensures w.if-parting.true)
+            (transition_stored l.list l.so_far _ (omega (arith, l.auto.list, e))) (l.invariant.3 nodes f at E v)),
+      )
+      | else-parting w ↦ (
+        omega arith,
+        omega arith,
+        parts,
+        λ nodes f at E v.
+            rw (w.list-is, w.so_far-is)
+            (none_joined (part_at_parallel f E) (list_numbers a.list.now) (list_numbers l.list) a.others.now a.n l.so_far l.j-index a.i c.loop-j-test.true refl
+            (told (part_at_parallel f E) (t.2 c.from-in-loop-j.result t.0 t.1 nodes f at E v) c.from.ensures c.from-in-loop-j.ensures w.if-parting.false) (l.invariant.3 nodes f at E v)),
+      )
+    ]
 
-pub loop-u-preserved : goal.loop-u-preserved
-loop-u-preserved c =
+pub returns-clause-lists : goal.returns-clause-lists
+returns-clause-lists c =
     let a = c.args in
-    let l = c.loop-u in (
-      search rules,
-      search rules,
-      subst (λ i. Parts a.rows.now a.k i c.part_at-parting.result) c.wide.ensures.0 c.part_at-parting.ensures.2,
-      λ nodes f at E js w v.
-          none_joined (part_at_parallel f E) a.list.now l.list a.others.now js a.n l.so_far l.u a.count a.i v c.loop-u-test.true c.number_at-j.ensures
-          (told (part_at_parallel f E) (c.part_at-parting.ensures.2 c.wide-in-loop-u.result c.part_at-parting.ensures.0 c.part_at-parting.ensures.1 nodes f at E w) c.wide.ensures.0 c.wide-in-loop-u.ensures.0 c.if-parting.false) (l.invariant.3 nodes f at E js w v),
-    )
-
-pub returns : goal.returns
-returns c =
-    let a = c.args in
-    let l = c.loop-u in
-    λ nodes f at E js w v.
-    is_held l.invariant.0 (all_joined (part_at_parallel f E) a.list.now l.list a.others.now js a.n l.so_far l.u a.count a.i v c.loop-u-test.false (l.invariant.3 nodes f at E js w v))
+    let l = c.loop-j in
+    λ nodes f at E w. all_joined (part_at_parallel f E) (list_numbers a.list.now) (list_numbers l.list) a.others.now a.n l.so_far l.j-index a.i c.loop-j-test.false (l.invariant.3 nodes f at E w)

@@ -1,42 +1,43 @@
 -- `keep` meets its contract. The loop's invariant: what is held and what is to come are all that the scope keeps.
--- The measure is what is left of the part. Assumes nothing.
-use mathlib.Core.Path.{◌∙◌}
-use borrow.Author.Rules.{rules}
-use Rattle.transitions.proofs.ScopeTurns.{none_kept, one_kept, none_more_kept, all_kept}
+-- Assumes nothing.
+use Rattle.std.proofs.Common.{◌<◌, length, arith, sym, ◌∙◌}
+use Rattle.transitions.specs.inner.Numbers.{list_numbers}
+use Rattle.transitions.proofs.FlatNumbers.{label_of, first_of, second_of, transition_stored}
+use Rattle.transitions.proofs.ScopeTurns.{passes_neither, stops_name, stops_conjugate, one_kept, none_more_kept, all_kept}
 use Rattle.transitions.proofs.scope.keep.Goals as goal
-
-pub loop-t-init : goal.loop-t-init
-loop-t-init c =
-    (search rules, search rules, search rules, search rules, λ ts p. let a = c.args in none_kept a.list.now a.start a.end a.name ts p)
-
-pub loop-t-preserved-then-l-name : goal.loop-t-preserved-then-l-name
-loop-t-preserved-then-l-name c =
-    let a = c.args in
-    let l = c.loop-t in (
-      search rules,
-      search rules,
-      search rules,
-      search rules,
-      λ ts p.
-          one_kept a.list.now a.start l.list l.t a.end a.name l.so_far c.loop-t-test.true l.invariant.1 c.put.ensures c.wide-l.ensures.0
-          c.number_at-label.ensures c.number_at-first.ensures c.number_at-second.ensures c.if-l-name.true (l.invariant.4 ts p),
-    )
+use Rattle.transitions.proofs.scope.keep.Goals.{then-label-name+then-label-name-2, else-label-name, else-label-name-via-then-label-name+else-label-name-2, else-label-name-via-else-label-name}
 
 pub loop-t-preserved : goal.loop-t-preserved
 loop-t-preserved c =
     let a = c.args in
-    let l = c.loop-t in (
-      search rules,
-      search rules,
-      search rules,
-      search rules,
-      λ ts p.
-          none_more_kept a.list.now a.start l.list l.t a.end a.name l.so_far c.loop-t-test.true (c.wide-l.ensures.0 ∙ c.number_at-label.ensures) c.if-l-name.false (l.invariant.4 ts p),
-    )
+    let l = c.loop-t in
+    let here : l.t < length l.part = omega (arith, l.auto.part) in
+    let entry = list_numbers a.part.now in
+    let part = list_numbers l.part in
+    let label = c.from-label.ensures ∙ sym (label_of l.part l.t _ here) in
+    elim c.if-label-name.branch [
+      | then-label-name+then-label-name-2 w ↦ (
+        omega arith,
+        λ ts p.
+            rw (w.part-is, w.so_far-is)
+            (one_kept entry 0 part l.t (length a.part.now) a.name l.so_far c.loop-t-test.true l.invariant.0
+            (transition_stored l.part l.so_far _ (omega arith)) c.from-label.ensures
+            (sym (label_of l.part l.t _ here)) (sym (first_of l.part l.t _ here)) (sym (second_of l.part l.t _ here))
+            (passes_neither a.name c.from-label.result w.if-label-name.true w.if-label-name-2.true) (l.invariant.1 ts p)),
+      )
+      | else-label-name w ↦ (
+        omega arith,
+        λ ts p.
+            rw (w.part-is, w.so_far-is)
+            (none_more_kept entry 0 part l.t (length a.part.now) a.name l.so_far c.loop-t-test.true label
+            (elim w.else-label-name.branch [
+              | else-label-name-via-then-label-name+else-label-name-2 v ↦ stops_conjugate a.name c.from-label.result v.if-label-name.true v.if-label-name-2.false
+              | else-label-name-via-else-label-name v ↦ stops_name a.name c.from-label.result v.if-label-name.false
+            ])
+            (l.invariant.1 ts p)),
+      )
+    ]
 
-pub returns : goal.returns
-returns c =
-    record {
-      fits = search rules;
-      keeps = λ ts p. all_kept c.loop-t-test.false (c.loop-t.invariant.4 ts p);
-    }
+pub returns-clause-keeps : goal.returns-clause-keeps
+returns-clause-keeps c =
+    λ ts p. all_kept c.loop-t-test.false (c.loop-t.invariant.1 ts p)
