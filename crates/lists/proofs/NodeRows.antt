@@ -6,7 +6,7 @@ use mathlib.Core.List.{List}
 use lib.ListN.{length, get_or, set}
 use lib.Seq.{sets}
 use borrow.Author.Tests.{le-leb, lt-leb}
-use Rattle.field.proofs.NumbersOfRows.{length_numbers, number_of_row, numbers_set}
+use Rattle.field.proofs.NumbersOfRows.{length_numbers, number_of_row, number_past_rows, numbers_set}
 use Rattle.net.specs.declared.Side.{Side}
 use Rattle.net.specs.declared.Side.TheVariants.{Inputs, Outputs}
 use Rattle.lists.specs.declared.Node.{Node}
@@ -47,6 +47,12 @@ module _ (nodes : List Node) (k : ℕ) (d : Node) (h : k < length nodes) where
       let b = list_of_row Outputs in
       let c = number 10 (11 * k + 10) (omega arith) (omega arith) in
       λ i. record { entries = a i; exits = b i; internal = c i }
+
+-- past the last row
+pub past_rows : (nodes : List Node) (side : Side) (k : ℕ) → length nodes ≤ k → get_or (node_table nodes) (place_of side k) 0 ≡ 0
+past_rows nodes Inputs k h =
+    let e : 11 * k ≡ 11 * k + 0 = omega arith in ap (λ m. get_or (node_table nodes) m 0) e ∙ number_past_rows node_numbers 11 (λ r. refl) nodes k 0 h
+past_rows nodes Outputs k h = number_past_rows node_numbers 11 (λ r. refl) nodes k 5 h
 
 -- ---- what is stored
 cut_small : {s : OneList} → Short s → cut s ≡ s

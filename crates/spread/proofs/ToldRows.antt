@@ -6,7 +6,7 @@ use mathlib.Core.List.{List, [], ◌∷◌}
 use lib.ListN.{length, get_or, set}
 use lib.Seq.{sets}
 use borrow.Author.Tests.{le-leb, lt-leb}
-use Rattle.field.proofs.NumbersOfRows.{length_numbers, number_of_row, numbers_set}
+use Rattle.field.proofs.NumbersOfRows.{length_numbers, number_of_row, number_past_rows, numbers_set}
 use Rattle.net.specs.declared.Side.{Side}
 use Rattle.net.specs.declared.Side.TheVariants.{Inputs, Outputs}
 use Rattle.spread.specs.declared.Told as declared
@@ -29,6 +29,10 @@ module _ (index : List declared.Told) (i : ℕ) (d : declared.Told) (h : i < len
   pub count_of_row : (side : Side) → get_or (told_table index) (count_of side i) 0 ≡ told_on side (get_or index i d)
   count_of_row Inputs = number 1 (3 * i + 1) (omega arith) (omega arith)
   count_of_row Outputs = number 2 (3 * i + 2) (omega arith) (omega arith)
+
+-- past the last row
+pub past_rows : (index : List declared.Told) (i j n : ℕ) → length index ≤ i → n ≡ 3 * i + j → get_or (told_table index) n 0 ≡ 0
+past_rows index i j n h e = ap (λ m. get_or (told_table index) m 0) e ∙ number_past_rows told_numbers 3 (λ r. refl) index i j h
 
 -- ---- what is stored
 pub told_stored : (index : List declared.Told) (i : ℕ) {k inputs outputs : ℕ} → k ≤ 65535 → inputs ≤ 65535 → outputs ≤ 65535 → i < length index

@@ -42,18 +42,13 @@ fn put_sequence(lists: &mut [Node], k: usize, second: usize, e: Counts, f: Count
     ensures { node_table lists.new ≡ two_put sequence_move (node_table lists.old) k second e f }
 {
     let node = lists[k];
+    let e_exits = usize::from(e.exits);
+    let f_entries = usize::from(f.entries);
     let off = usize::from(e.internals) + usize::from(f.internals);
     let internals = places_from(node.internal);
-    let exits = lowered(internals, k, 1, usize::from(f.entries), 0, off);
+    let exits = lowered(internals, k, 1, f_entries, 0, off);
     put_node(lists, k + 1, node.entries, exits, node.internal);
-    let entries = lowered(
-        internals,
-        k,
-        usize::from(e.exits),
-        1,
-        usize::from(f.entries),
-        off,
-    );
+    let entries = lowered(internals, k, e_exits, 1, f_entries, off);
     let internal = number_behind(node.internal, e.internals);
     put_node(lists, second, entries, node.exits, internal);
 }
@@ -64,25 +59,15 @@ fn put_choice(lists: &mut [Node], k: usize, second: usize, e: Counts, f: Counts)
     ensures { node_table lists.new ≡ two_put choice_move (node_table lists.old) k second e f }
 {
     let node = lists[k];
-    let entries = lowered(node.entries, k, 1, usize::from(f.entries), 0, 0);
-    let exits = lowered(node.exits, k, 1, usize::from(f.exits), 0, 0);
+    let e_entries = usize::from(e.entries);
+    let f_entries = usize::from(f.entries);
+    let e_exits = usize::from(e.exits);
+    let f_exits = usize::from(f.exits);
+    let entries = lowered(node.entries, k, 1, f_entries, 0, 0);
+    let exits = lowered(node.exits, k, 1, f_exits, 0, 0);
     put_node(lists, k + 1, entries, exits, node.internal);
-    let entries = lowered(
-        node.entries,
-        k,
-        usize::from(e.entries),
-        1,
-        usize::from(f.entries),
-        0,
-    );
-    let exits = lowered(
-        node.exits,
-        k,
-        usize::from(e.exits),
-        1,
-        usize::from(f.exits),
-        0,
-    );
+    let entries = lowered(node.entries, k, e_entries, 1, f_entries, 0);
+    let exits = lowered(node.exits, k, e_exits, 1, f_exits, 0);
     let internal = number_behind(node.internal, e.internals);
     put_node(lists, second, entries, exits, internal);
 }
@@ -96,13 +81,8 @@ fn put_parallel(lists: &mut [Node], k: usize, second: usize, e: Counts, f: Count
     put_node(lists, k + 1, node.entries, node.exits, node.internal);
     let entries = lowered(node.entries, k, 1, 1, 0, usize::from(e.entries));
     let exits = lowered(node.exits, k, 1, 1, 0, usize::from(e.exits));
-    put_node(
-        lists,
-        second,
-        entries,
-        exits,
-        number_behind(node.internal, e.internals),
-    );
+    let behind = number_behind(node.internal, e.internals);
+    put_node(lists, second, entries, exits, behind);
 }
 
 // "Loop: entries of E; internals of E, F, G, then exits(E)×exits(F)×entries(F)×entries(G); exits of G."
@@ -134,13 +114,8 @@ fn put_loop(
     let inner = number_behind(node.internal, e.internals);
     put_node(lists, second, entries, exits, inner);
     let entries = lowered(internals, k, before * f_entries, 1, g_entries, off);
-    put_node(
-        lists,
-        third,
-        entries,
-        node.exits,
-        number_behind(inner, f.internals),
-    );
+    let last = number_behind(inner, f.internals);
+    put_node(lists, third, entries, node.exits, last);
 }
 
 // The operands of node k, which is no action.

@@ -17,10 +17,10 @@ returns c =
     let node : Node = get_or a.lists.now a.k no_node in
     let n = sym (node_of_row a.lists.now a.k no_node c.requires) in
     two_told l a.k a.second choice_move a.e a.f
-    (of_entries l a.k n 1 a.f.entries 0 0 (c.lowered-entries.ensures ∙ (λ t. cut (lower_by 1 (c.from.ensures t) 0 0 a.k node.entries))))
-    (of_exits l a.k n 1 a.f.exits 0 0 (c.lowered-exits.ensures ∙ (λ t. cut (lower_by 1 (c.from-2.ensures t) 0 0 a.k node.exits))))
+    (of_entries l a.k n 1 a.f.entries 0 0 (c.lowered-entries.ensures ∙ (λ t. cut (lower_by 1 (c.from-f_entries.ensures t) 0 0 a.k node.entries))))
+    (of_exits l a.k n 1 a.f.exits 0 0 (c.lowered-exits.ensures ∙ (λ t. cut (lower_by 1 (c.from-f_exits.ensures t) 0 0 a.k node.exits))))
     (internal_kept l a.k n)
-    (of_entries l a.k n a.e.entries 1 a.f.entries 0 (c.lowered-entries-2.ensures ∙ (λ t. cut (lower_by (c.from-3.ensures t) 1 (c.from-4.ensures t) 0 a.k node.entries))))
-    (of_exits l a.k n a.e.exits 1 a.f.exits 0 (c.lowered-exits-2.ensures ∙ (λ t. cut (lower_by (c.from-5.ensures t) 1 (c.from-6.ensures t) 0 a.k node.exits))))
+    (of_entries l a.k n a.e.entries 1 a.f.entries 0 (c.lowered-entries-2.ensures ∙ (λ t. cut (lower_by (c.from-e_entries.ensures t) 1 (c.from-f_entries.ensures t) 0 a.k node.entries))))
+    (of_exits l a.k n a.e.exits 1 a.f.exits 0 (c.lowered-exits-2.ensures ∙ (λ t. cut (lower_by (c.from-e_exits.ensures t) 1 (c.from-f_exits.ensures t) 0 a.k node.exits))))
     (internal_behind l a.k n c.number_behind-internal.result a.e.internals c.number_behind-internal.ensures)
     c.put_node.ensures c.put_node-2.ensures

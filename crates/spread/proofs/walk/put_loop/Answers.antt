@@ -27,8 +27,8 @@ returns c =
     let off_is : c.from.result + c.from-2.result + c.from-3.result ≡ off = λ t. c.from.ensures t + c.from-2.ensures t + c.from-3.ensures t in
     let before = a.e.exits * a.f.exits in
     let behind = a.f.entries * a.g.entries in
-    let third : c.number_behind.result ≡ (node.internal + (a.e.internals + a.f.internals)) % 65536 =
-    c.number_behind.ensures ∙ ap (λ m. (m + a.f.internals) % 65536) inner.ensures ∙ mod-add-mod (node.internal + a.e.internals) 65536 a.f.internals
+    let third : c.number_behind-last.result ≡ (node.internal + (a.e.internals + a.f.internals)) % 65536 =
+    c.number_behind-last.ensures ∙ ap (λ m. (m + a.f.internals) % 65536) inner.ensures ∙ mod-add-mod (node.internal + a.e.internals) 65536 a.f.internals
     ∙ ap (λ m. m % 65536) (add_assoc node.internal a.e.internals a.f.internals) in
     three_told l a.k a.second a.third a.e a.f a.g
     (entries_kept l a.k n)
@@ -39,5 +39,5 @@ returns c =
     (internal_behind l a.k n inner.result a.e.internals inner.ensures)
     (of_internals l a.k n (before * a.f.entries) 1 a.g.entries off i.ensures (c.lowered-entries-2.ensures ∙ (λ t. cut (lower_by (x t * y t * f t) 1 (g t) (off_is t) a.k i.result))))
     (exits_kept l a.k n)
-    (internal_behind l a.k n c.number_behind.result (a.e.internals + a.f.internals) third)
+    (internal_behind l a.k n c.number_behind-last.result (a.e.internals + a.f.internals) third)
     c.put_node.ensures c.put_node-2.ensures c.put_node-3.ensures

@@ -20,5 +20,5 @@ returns c =
     (entries_kept l a.k n) (exits_kept l a.k n) (internal_kept l a.k n)
     (of_entries l a.k n 1 1 0 a.e.entries (c.lowered-entries.ensures ∙ (λ t. cut (lower_by 1 1 0 (c.from.ensures t) a.k node.entries))))
     (of_exits l a.k n 1 1 0 a.e.exits (c.lowered-exits.ensures ∙ (λ t. cut (lower_by 1 1 0 (c.from-2.ensures t) a.k node.exits))))
-    (internal_behind l a.k n c.number_behind.result a.e.internals c.number_behind.ensures)
+    (internal_behind l a.k n c.number_behind-behind.result a.e.internals c.number_behind-behind.ensures)
     c.put_node.ensures c.put_node-2.ensures

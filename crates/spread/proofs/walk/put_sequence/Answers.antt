@@ -17,9 +17,9 @@ returns c =
     let i = c.places_from-internals in
     let off = a.e.internals + a.f.internals in
     let exits = of_internals l a.k n 1 a.f.entries 0 off i.ensures
-    (c.lowered-exits.ensures ∙ (λ t. cut (lower_by 1 (c.from-3.ensures t) 0 (c.from.ensures t + c.from-2.ensures t) a.k i.result))) in
+    (c.lowered-exits.ensures ∙ (λ t. cut (lower_by 1 (c.from-f_entries.ensures t) 0 (c.from.ensures t + c.from-2.ensures t) a.k i.result))) in
     let entries = of_internals l a.k n a.e.exits 1 a.f.entries off i.ensures
-    (c.lowered-entries.ensures ∙ (λ t. cut (lower_by (c.from-4.ensures t) 1 (c.from-5.ensures t) (c.from.ensures t + c.from-2.ensures t) a.k i.result))) in
+    (c.lowered-entries.ensures ∙ (λ t. cut (lower_by (c.from-e_exits.ensures t) 1 (c.from-f_entries.ensures t) (c.from.ensures t + c.from-2.ensures t) a.k i.result))) in
     two_told l a.k a.second sequence_move a.e a.f
     (entries_kept l a.k n) exits (internal_kept l a.k n)
     entries (exits_kept l a.k n) (internal_behind l a.k n c.number_behind-internal.result a.e.internals c.number_behind-internal.ensures)
