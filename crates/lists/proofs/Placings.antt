@@ -5,9 +5,9 @@ use native.Mathlib.Omega.{arith}
 use native.Mathlib.Decide.{dec_lt}
 use native.Mathlib.Nat.{mod-eq_of_lt, mod-add-mod, zero-mul, one-mul, mul-one, suc-mul}
 use mathlib.Core.Path.{◌≡◌, refl, sym, ◌∙◌, ap, subst}
-use mathlib.Core.List.{List, [], ◌∷◌}
-use lib.ListN.{length, get_or, set, length-set}
-use lib.Seq.{get_or-set_same, get_or-set_other}
+use mathlib.Core.List.{List, [], ◌∷◌, ◌++◌}
+use lib.ListN.{length, get_or, set, take, drop, length-set, length-append, length-drop, get_or-append}
+use lib.Seq.{get_or-set_same, get_or-set_other, get_or-append-add, get_or-drop, length-take-le}
 use Rattle.plan.specs.inner.Table.{Stands}
 use Rattle.arcs.specs.inner.Positions.{stretched, repeated}
 use Rattle.arcs.proofs.Positions.{stretched_length, stretched_at, repeated_length, repeated_first, repeated_next}
@@ -67,6 +67,20 @@ copies_of_steps before after from step count end one some low e s = subst (λ n.
         let z : j * step ≡ (j - 1) * step + step = ap (λ i. i * step) (sym q) ∙ omega (arith, suc-mul (j - 1) step) in
         let y : from + j * step ≡ from + (j - 1) * step + step = omega arith in
         s.new j h ∙ ap (λ x. x % 65536) y ∙ sym (mod-add-mod (from + (j - 1) * step) 65536 step) ∙ ap (λ x. (x + step) % 65536) (sym (s.new (j - 1) (omega arith)))
+
+-- Numbers that are written into a slice's front, which is lent by itself.
+pub steps_in_front : {from step n : ℕ} {out after : List ℕ} → n ≤ length out → Stepped from step (length (take n out)) (take n out) after → Stepped from step n out (after ++ drop n out)
+steps_in_front {from} {step} {n} {out} {after} h s = record {
+  long = length-append after (drop n out) ∙ omega (arith, s.long, front, length-drop n out);
+  new = λ j l. get_or-append after (drop n out) 0 j (omega (arith, s.long, front)) ∙ s.new j (omega (arith, front));
+  rest = λ j l.
+      let p : j ≡ length after + (j - n) = omega (arith, s.long, front) in
+      let q : n + (j - n) ≡ j = omega arith in
+      ap (λ i. get_or (after ++ drop n out) i 0) p ∙ get_or-append-add after (drop n out) (j - n) 0 ∙ get_or-drop n out (j - n) 0 ∙ ap (λ i. get_or out i 0) q;
+}
+  where
+    front : length (take n out) ≡ n
+    front = length-take-le n out h
 
 -- ---- what stands there at the end
 -- Counting by one from the base on is the base's run.

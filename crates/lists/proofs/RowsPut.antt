@@ -2,14 +2,13 @@
 -- True by recursion on the numbers, each of which is below the limit, so that `%` changes none.
 use Prim.Native.Nat.{ℕ, zero, suc, ◌+◌, ◌*◌, ◌%◌, ◌≤◌, ◌<◌}
 use native.Mathlib.Omega.{arith}
-use native.Mathlib.Numerals.{unary_clauses}
 use mathlib.Core.Path.{◌≡◌, refl, ◌∙◌, ap}
 use mathlib.Core.Logic.{◌⊎◌, inl, inr}
 use mathlib.Core.List.{List, [], ◌∷◌}
 use lib.ListN.{length, get_or, set, length-set}
 use lib.Seq.{sets, length-sets, get_or-set_same, get_or-set_other}
 use borrow.Author.Tests.{le-leb}
-use Rattle.lists.specs.inner.Lists.{OneList, one_list, Short, list_row, list_numbers, row_of, node_put}
+use Rattle.lists.specs.inner.Lists.{OneList, one_list, Short, list_row, row_of, node_put}
 
 pub mod_small : (x : ℕ) → x ≤ 65535 → x % 65536 ≡ x
 mod_small x h = omega arith
@@ -25,21 +24,6 @@ sets_at (v ∷ vs) l i zero k e h room =
     let p : k ≡ i = omega arith in
     ap (λ n. get_or (sets (set l i v) (suc i) vs) n 0) p ∙ sets_other vs (set l i v) (suc i) i (inl (omega arith)) ∙ get_or-set_same l i v 0 (omega arith)
 sets_at (v ∷ vs) l i (suc j) k e h room = sets_at vs (set l i v) (suc i) j k (omega arith) (omega arith) (omega (arith, length-set l i v))
-
--- ---- stores in a line are one run
-pub three_stored : (l : List ℕ) (at a b c : ℕ) → set (set (set l at a) (at + 1) b) (at + 2) c ≡ sets l at (a ∷ (b ∷ (c ∷ [])))
-three_stored l at a b c = simp unary_clauses refl
-
-pub list_stored : (l : List ℕ) (at a b c d e : ℕ) → set (set (set (set (set l at a) (at + 1) b) (at + 2) c) (at + 3) d) (at + 4) e ≡ sets l at (a ∷ (b ∷ (c ∷ (d ∷ (e ∷ [])))))
-list_stored l at a b c d e = simp unary_clauses refl
-
-pub row_stored : (l : List ℕ) (at : ℕ) (entries exits : OneList) (internal : ℕ)
-    → set (sets (sets l at (list_numbers entries [])) (at + 5) (list_numbers exits [])) (at + 10) (internal % 65536) ≡ sets l at (row_of entries exits internal)
-row_stored l at entries exits internal =
-    let e : at + 10 ≡ at + 5 + 5 = omega arith in
-    let lists = sets (sets l at (list_numbers entries [])) (at + 5) (list_numbers exits []) in
-    let r : set lists (at + 5 + 5) (internal % 65536) ≡ sets l at (row_of entries exits internal) = simp unary_clauses refl in
-    ap (λ n. set lists n (internal % 65536)) e ∙ r
 
 -- ---- the row of a node
 module _ (lists : List ℕ) (c : ℕ) (entries exits : OneList) (internal : ℕ) (room : 11 * c + 11 ≤ length lists) (ins : Short entries) (outs : Short exits) (low : internal ≤ 65535) where

@@ -1,74 +1,60 @@
-// Where the lists of each node stand in the whole net, eleven numbers to a node: five for its entries, five for its exits, and the number
-// of its first internal place. Nothing here is larger than the number of places, which 11 has judged before; `%` keeps to 16 bits.
+// Where the lists of each node stand in the whole net: those of its entries and of its exits, and the number of its first internal place.
+// Nothing here is larger than the number of places, which 11 has judged before; `short` keeps to 16 bits.
 #![tactic(auto)]
 
 pub mod placing;
 
-ghost use Rattle.std.specs.Prelude.{◌≡◌, [], ◌+◌, ◌*◌, ◌≤◌, length};
-ghost use Rattle.std.proofs.lemmas.List.Edits.{sets};
-ghost use Rattle.lists.specs.inner.Lists.{Short, ShortNode, Modest, one_list, list_row, node_row, lower_by, list_numbers, node_put};
+ghost use Rattle.std.specs.Prelude.{◌≡◌, ◌%◌};
+ghost use Rattle.lists.specs.inner.Lists.{Modest, one_list, lower_by, cut, node_put};
+ghost use Rattle.lists.specs.inner.Numbers.{list_on, node_table};
 
-use plan::exclusive::wide;
+use net::Side;
 
-// One list of a node: position p is `width` numbers from base + p * width on; and these `times` times, each time `step` more, and then as
-// the list of node `up` on the same side. With 0 times they are all.
-#[derive(Clone, Copy)]
+/// One list of a node: position p is `width` numbers from base + p * width on; and these `times` times, each time `step` more, and then as
+/// the list of node `up` on the same side. With 0 times they are all.
+#[derive(Clone, Copy, Debug, Default, PartialEq, Eq)]
 pub struct List {
-    pub base: usize,
-    pub width: usize,
-    pub times: usize,
-    pub step: usize,
-    pub up: usize,
+    pub base: u16,
+    pub width: u16,
+    pub times: u16,
+    pub step: u16,
+    pub up: u16,
 }
 
-// The three lists of a node; its internal places stand one after another.
-#[derive(Clone, Copy)]
+/// The three lists of a node; its internal places stand one after another.
+#[derive(Clone, Copy, Debug, Default, PartialEq, Eq)]
 pub struct Node {
     pub entries: List,
     pub exits: List,
-    pub internal: usize,
+    /// The number of its first internal place.
+    pub internal: u16,
 }
 
-// The numbers of a node, and where those of its exits and that of its first internal place stand.
-pub const ROW: usize = 11;
-
-pub const EXITS: usize = 5;
-
-pub const INTERNAL: usize = 10;
-
-// The list whose five numbers stand from a place on.
-pub fn list_at(lists: &[u16], at: usize) -> List
-    requires { at + 5 ≤ length lists.now }
-    ensures { (result ≡ list_row lists.now at) × Short result }
-{
-    List {
-        base: wide(lists[at]),
-        width: wide(lists[at + 1]),
-        times: wide(lists[at + 2]),
-        step: wide(lists[at + 3]),
-        up: wide(lists[at + 4]),
+impl Node {
+    /// The list that an action's places on a side are told by: its inputs are its entries, its outputs its exits.
+    pub fn on(self, side: Side) -> List
+        ensures { result ≡ list_on side self }
+    {
+        match side {
+            Side::Inputs => self.entries,
+            Side::Outputs => self.exits,
+        }
     }
 }
 
-// The lists of node k.
-pub fn node_at(lists: &[u16], k: usize) -> Node
-    requires { 11 * k + 11 ≤ length lists.now }
-    ensures { (result ≡ node_row lists.now k) × ShortNode result }
+/// A number in 16 bits.
+pub fn short(number: usize) -> u16
+    ensures { result ≡ number % 65536 }
 {
-    let at = ROW * k;
-    Node {
-        entries: list_at(lists, at),
-        exits: list_at(lists, at + EXITS),
-        internal: wide(lists[at + INTERNAL]),
-    }
+    (number % 65536) as u16
 }
 
-// Places that stand one after another from a number on.
-pub fn places_from(base: usize) -> List
+/// Places that stand one after another from a number on.
+pub fn places_from(base: u16) -> List
     ensures { result ≡ one_list base 1 0 0 0 }
 {
     List {
-        base: base,
+        base,
         width: 1,
         times: 0,
         step: 0,
@@ -76,56 +62,43 @@ pub fn places_from(base: usize) -> List
     }
 }
 
-// "The number of a product place": an operand's list that stands from position `off` on in a list of node k, with `left` places before it and
-// `right` behind in the product. The factors behind it make it wider, those before it copy it; a factor of one place copies nothing, and
-// where the node's list is not copied there is nothing to go on with.
-pub fn lowered(s: List, k: usize, left: usize, right: usize, step: usize, off: usize) -> List
-    requires { Short s × Modest left right step off }
-    ensures { result ≡ lower_by left right step off k s }
+/// "The number of a product place": an operand's list that stands from position `off` on in a list of node k, with `left` places before it and
+/// `right` behind in the product; each time that it is copied it stands `step` places further on. The factors behind it make it wider, those
+/// before it copy it; a factor of one place copies nothing, and where the node's list is not copied there is nothing to go on with.
+// Four numbers in a row and no struct of them: a literal of it would be laid out over six lines at each of the eleven calls.
+pub fn lowered(list: List, k: usize, left: usize, right: usize, step: usize, off: usize) -> List
+    requires { Modest left right step off }
+    ensures { result ≡ cut (lower_by left right step off k list) }
 {
-    let base = s.base + off * s.width;
-    let width = right * s.width;
+    let of_node = usize::from(list.width);
+    let base = short(usize::from(list.base) + off * of_node);
+    let width = short(right * of_node);
     if left == 1 {
         return List {
-            base: base,
-            width: width,
-            times: s.times,
-            step: s.step,
-            up: s.up,
+            base,
+            width,
+            ..list
         };
     }
-    let up = if s.times == 0 { 0 } else { k };
+    let up = if list.times == 0 { 0 } else { short(k) };
     List {
-        base: base,
-        width: width,
-        times: left,
-        step: step * s.width,
-        up: up,
+        base,
+        width,
+        times: short(left),
+        step: short(step * of_node),
+        up,
     }
 }
 
-// Five numbers from a place on.
-fn put_list(lists: &mut [u16], at: usize, s: List)
-    requires { at + 5 ≤ length lists.old }
-    ensures { lists.new ≡ sets lists.old at (list_numbers s []) }
+/// The lists of node c, where the table reaches.
+pub fn put_node(lists: &mut [Node], c: usize, entries: List, exits: List, internal: u16)
+    ensures { node_table lists.new ≡ node_put (node_table lists.old) c entries exits internal }
 {
-    lists[at] = (s.base % 65536) as u16;
-    lists[at + 1] = (s.width % 65536) as u16;
-    lists[at + 2] = (s.times % 65536) as u16;
-    lists[at + 3] = (s.step % 65536) as u16;
-    lists[at + 4] = (s.up % 65536) as u16;
-}
-
-// The lists of node c, where the table reaches.
-pub fn put_node(lists: &mut [u16], c: usize, entries: List, exits: List, internal: usize)
-    requires { c ≤ 65535 }
-    ensures { lists.new ≡ node_put lists.old c entries exits internal }
-{
-    let at = ROW * c;
-    if lists.len() < at + ROW {
-        return;
+    if c < lists.len() {
+        lists[c] = Node {
+            entries,
+            exits,
+            internal,
+        };
     }
-    put_list(lists, at, entries);
-    put_list(lists, at + EXITS, exits);
-    lists[at + INTERNAL] = (internal % 65536) as u16;
 }

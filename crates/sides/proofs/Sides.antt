@@ -26,6 +26,7 @@ use Rattle.lists.specs.inner.Lists.{list_row, place_of, Means}
 use Rattle.lists.specs.inner.Placing.{Small}
 use Rattle.spread.specs.inner.Spread.{Listed}
 use Rattle.sides.specs.inner.Sides.{told_count, item_places, Below, Placed, PlacedPair, PlacedBoth, InOrder, Drafted}
+use Rattle.std.specs.Prelude.{Option}
 use Rattle.sides.proofs.Told.{told_one}
 use Rattle.sides.proofs.Unions.{union_in_order, merged_all}
 
@@ -45,7 +46,7 @@ module _ (lists index : List ℕ) (side : Side) (i j : ℕ) (part : List ℕ) {m
       let w = subst (λ x. InOrder x (length l)) (p E d r) (subst (InOrder pair) (e ∙ told_one d side i r.0) o) in
       p E d r ∙ sym (union_in_order 0 (0 + length (places 0 E)) l (item_places E side (one j)) (numbers_rise (passes side i) 0 (places 0 E)) w) ∙ both_are E side i j
 
-  pub pair_merged : {k : ℕ} {after : List ℕ} → Merged (length part) k (union (take m pair) (merges.part pair m)) part after → Placed lists index side (two i j) part after
+  pub pair_merged : {k : Option ℕ} {after : List ℕ} → Merged (length part) k (union (take m pair) (merges.part pair m)) part after → Placed lists index side (two i j) part after
   pair_merged w E d r n =
       let l = item_places E side (one i) in
       let f = sym (e ∙ told_one d side i r.0) in

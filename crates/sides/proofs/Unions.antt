@@ -2,13 +2,13 @@
 -- True because each number of a rising list is at most its last, and a merge into room for both leaves nothing else there.
 use Prim.Native.Nat.{ℕ, suc, ◌+◌, ◌-◌, ◌<◌}
 use native.Mathlib.Omega.{arith}
-use native.Mathlib.Nat.{lt_of_not-le, le_of_suc-le-suc}
 use mathlib.Core.Path.{◌≡◌, refl, ◌∙◌, ap}
 use mathlib.Core.List.{List, [], ◌∷◌, ◌++◌}
 use lib.ListN.{length, get_or, get_or-append}
 use lib.Seq.{get_or-append_seam, get_or-append-add}
 use lib.Dec.{T, leb, ltb, leb→le}
 use borrow.Author.Tests.{lt-ltb}
+use Rattle.std.specs.Prelude.{Option, Some, None}
 use Rattle.field.proofs.Tests.{and_parts}
 use Rattle.net.specs.Check.{rising}
 use Rattle.arcs.specs.inner.Merge.{into, union, Below, Merged}
@@ -39,5 +39,9 @@ union_in_order k n l (b ∷ bs) t o =
     omega (arith, get_or-append_seam l b bs 0, get_or-append l (b ∷ bs) 0 i (omega arith), ap (λ i. get_or (l ++ (b ∷ bs)) i 0) f)))
 
 -- ---- merged
-pub merged_all : {l part after : List ℕ} {r : ℕ} → length l ≡ length part → Merged (length part) r l part after → after ≡ l
-merged_all {l} {part} n w = w.written (le_of_suc-le-suc (lt_of_not-le (λ h. absurd (omega (arith, w.beyond h))))) ∙ all_set l part n
+pub merged_all : {l part after : List ℕ} {r : Option ℕ} → length l ≡ length part → Merged (length part) r l part after → after ≡ l
+merged_all {l} {part} {after} {r} n w = go r w
+  where
+    go : (r : Option ℕ) → Merged (length part) r l part after → after ≡ l
+    go (Some k) w = w.some.2 ∙ all_set l part n
+    go None w = absurd (omega (arith, w.none))

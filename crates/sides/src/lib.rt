@@ -5,85 +5,90 @@
 ghost use Rattle.std.specs.Prelude.{◌≡◌, true, cond, [], ◌∷◌, ◌+◌, ◌*◌, ◌≤◌, length, get_or, ltb};
 ghost use Rattle.algebra.specs.Item.{one, two};
 ghost use Rattle.net.specs.Tables.{item_of};
-ghost use Rattle.boxes.specs.inner.ArcCounts.{item_arcs};
 ghost use Rattle.net.specs.declared.Side.TheVariants.{Inputs, Outputs};
+ghost use Rattle.boxes.specs.inner.ArcCounts.{item_arcs};
 ghost use Rattle.lists.specs.inner.Lists.{place_of};
-ghost use Rattle.sides.specs.inner.Sides.{told_count, Placed, PlacedBoth, PlacedPair, InOrder};
+ghost use Rattle.lists.specs.inner.Numbers.{node_table};
+ghost use Rattle.spread.specs.inner.Numbers.{told_table};
+ghost use Rattle.sides.specs.inner.Sides.{told_count, told_row, Placed, PlacedBoth, PlacedPair, InOrder};
 
 use arcs::merge::merge;
+use lists::Node;
+use lists::placing::put_places;
 use net::Side;
-use lists::placing::{place_of, put_places};
-use plan::exclusive::{number_at, wide};
+use spread::Told;
+use transitions::Transition;
 
-// How many places an action has on one side.
-fn count_of(index: &[u16], side: Side, i: usize) -> usize
-    requires { i ≤ 65535 }
-    ensures { (result ≡ told_count index.now side i) × (result ≤ 65535) }
+// What is told of action i; past the end zeros.
+fn told_at(index: &[Told], i: usize) -> Told
+    ensures { result ≡ told_row (told_table index.now) i }
 {
-    match side {
-        Side::Inputs => wide(number_at(index, 3 * i + 1)),
-        Side::Outputs => wide(number_at(index, 3 * i + 2)),
+    if i < index.len() {
+        index[i]
+    } else {
+        Told::default()
     }
 }
 
-// How many a transition has: as many as its action, or as both its actions, which share none.
-pub fn count_item(index: &[u16], side: Side, first: usize, second: usize) -> usize
-    requires { (first ≤ 65535) × (second ≤ 65535) }
-    ensures { (result ≡ item_arcs (told_count index.now side) (item_of first second)) × (result ≤ 131070) }
+// How many places an action has on one side.
+fn count_of(index: &[Told], side: Side, i: usize) -> usize
+    ensures { (result ≡ told_count (told_table index.now) side i) × (result ≤ 65535) }
 {
-    let count = count_of(index, side, first);
+    usize::from(told_at(index, i).on(side))
+}
+
+/// How many places a transition has on one side: as many as its action, or as both its actions, which share none.
+pub fn count_item(index: &[Told], side: Side, t: Transition) -> usize
+    ensures { (result ≡ item_arcs (told_count (told_table index.now) side) (item_of t.first t.second)) × (result ≤ 131070) }
+{
+    let count = count_of(index, side, usize::from(t.first));
+    let second = usize::from(t.second);
     if second == field::NO_SECOND {
         return count;
     }
     count + count_of(index, side, second)
 }
 
-// The node that an action is, whose lists say where the action's places stand.
-fn node_of(index: &[u16], i: usize) -> usize
-    requires { i ≤ 65535 }
-    ensures { (result ≡ get_or index.now (3 * i) 0) × (result ≤ 65535) }
-{
-    wide(number_at(index, 3 * i))
-}
-
 // The first of an action's places on one side.
-fn first_place(lists: &[u16], index: &[u16], side: Side, i: usize) -> u16
-    requires { i ≤ 65535 }
-    ensures { result ≡ get_or lists.now (place_of side (get_or index.now (3 * i) 0)) 0 }
+fn first_place(lists: &[Node], index: &[Told], side: Side, i: usize) -> u16
+    ensures { result ≡ get_or (node_table lists.now) (place_of side (get_or (told_table index.now) (3 * i) 0)) 0 }
 {
-    number_at(lists, place_of(side, node_of(index, i)))
+    let node = usize::from(told_at(index, i).node);
+    if node < lists.len() {
+        lists[node].on(side).base
+    } else {
+        0
+    }
 }
 
 // The places of an action on one side, into a part of the arcs that is as long as they are many.
-fn put_one(lists: &[u16], index: &[u16], i: usize, side: Side, part: &mut [u16])
-    requires { (i ≤ 65535) × (length part.old ≤ 65536) }
-    ensures { Placed lists.now index.now side (one i) part.old part.new }
+fn put_one(lists: &[Node], index: &[Told], i: usize, side: Side, part: &mut [u16])
+    requires { length part.old ≤ 65536 }
+    ensures { Placed (node_table lists.now) (told_table index.now) side (one i) part.old part.new }
 {
-    put_places(lists, node_of(index, i), side, part);
+    let node = told_at(index, i).node;
+    put_places(lists, usize::from(node), side, part);
 }
 
 // Whether the number before place m is below the one there.
 fn is_in_order(part: &[u16], m: usize) -> bool
     ensures { result ≡ true → InOrder part.now m }
 {
-    if m == 0 {
-        return false;
-    }
-    number_at(part, m - 1) < number_at(part, m)
+    0 < m && m < part.len() && part[m - 1] < part[m]
 }
 
 // The places of two actions, one list behind the other, the second's from place m on.
 fn put_pair(
-    lists: &[u16],
-    index: &[u16],
+    lists: &[Node],
+    index: &[Told],
     i: usize,
     j: usize,
     side: Side,
     m: usize,
     part: &mut [u16],
 )
-    requires { (i ≤ 65535) × (j ≤ 65535) × (m ≡ told_count index.now side i) × (length part.old ≡ m + told_count index.now side j) × (length part.old ≤ 2048) }
-    ensures { PlacedPair lists.now index.now side i j part.new }
+    requires { (m ≡ told_count (told_table index.now) side i) × (length part.old ≡ m + told_count (told_table index.now) side j) × (length part.old ≤ 2048) }
+    ensures { PlacedPair (node_table lists.now) (told_table index.now) side i j part.new }
 {
     put_one(lists, index, i, side, &mut part[..m]);
     put_one(lists, index, j, side, &mut part[m..]);
@@ -91,8 +96,8 @@ fn put_pair(
 
 // The same in rising order: the two lists are put into room that is as long as both, and merged from there.
 fn put_merged(
-    lists: &[u16],
-    index: &[u16],
+    lists: &[Node],
+    index: &[Told],
     i: usize,
     j: usize,
     side: Side,
@@ -100,8 +105,8 @@ fn put_merged(
     room: &mut [u16],
     part: &mut [u16],
 )
-    requires { (i ≤ 65535) × (j ≤ 65535) × (m ≡ told_count index.now side i) × (length room.old ≡ m + told_count index.now side j) × (length room.old ≤ 2048) }
-    ensures { Placed lists.now index.now side (two i j) part.old part.new }
+    requires { (m ≡ told_count (told_table index.now) side i) × (length room.old ≡ m + told_count (told_table index.now) side j) × (length room.old ≤ 2048) }
+    ensures { Placed (node_table lists.now) (told_table index.now) side (two i j) part.old part.new }
 {
     put_pair(lists, index, i, j, side, m, room);
     // Lent whole first: the borrow checker takes two parts of one loan, and not two loans of a part each.
@@ -112,16 +117,16 @@ fn put_merged(
 // The places of two actions, those of the first before those of the second. Where the second's are all above them they rise as they
 // stand. Else they are merged, by way of work room: the lent one where it is long enough, or an array of its own.
 fn put_both(
-    lists: &[u16],
-    index: &[u16],
+    lists: &[Node],
+    index: &[Told],
     i: usize,
     j: usize,
     side: Side,
     part: &mut [u16],
     spare: &mut [u16],
 )
-    requires { (i ≤ 65535) × (j ≤ 65535) × (length part.old ≡ told_count index.now side i + told_count index.now side j) × (length part.old ≤ 2048) }
-    ensures { Placed lists.now index.now side (two i j) part.old part.new }
+    requires { (length part.old ≡ told_count (told_table index.now) side i + told_count (told_table index.now) side j) × (length part.old ≤ 2048) }
+    ensures { Placed (node_table lists.now) (told_table index.now) side (two i j) part.old part.new }
 {
     let m = count_of(index, side, i);
     put_pair(lists, index, i, j, side, m, part);
@@ -142,30 +147,26 @@ fn put_two(part: &mut [u16], p: u16, q: u16)
     requires { length part.old ≡ 2 }
     ensures { part.new ≡ cond (ltb p q) (p ∷ (q ∷ [])) (q ∷ (p ∷ [])) }
 {
-    if p < q {
-        part[0] = p;
-        part[1] = q;
-    } else {
-        part[0] = q;
-        part[1] = p;
-    }
+    part[0] = p.min(q);
+    part[1] = p.max(q);
 }
 
-// The places of a transition on one side: "both input sets and both output sets". Every action has a place, and its row begins with its first
+// The places of a transition on one side: "both input sets and both output sets". Every action has a place, and its list begins with its first
 // one. So a single place is the first one of one action, and two places of two actions are the first one of each: no list is gone through.
 // Else, of two actions the one whose first place is lower goes first; there is one call for both orders, so that its code is put in place.
 fn put_side(
-    lists: &[u16],
-    index: &[u16],
-    first: usize,
-    second: usize,
+    lists: &[Node],
+    index: &[Told],
+    t: Transition,
     side: Side,
     part: &mut [u16],
     spare: &mut [u16],
 )
-    requires { (first ≤ 65535) × (second ≤ 65535) × (length part.old ≡ item_arcs (told_count index.now side) (item_of first second)) × (length part.old ≤ 2048) }
-    ensures { Placed lists.now index.now side (item_of first second) part.old part.new }
+    requires { (length part.old ≡ item_arcs (told_count (told_table index.now) side) (item_of t.first t.second)) × (length part.old ≤ 2048) }
+    ensures { Placed (node_table lists.now) (told_table index.now) side (item_of t.first t.second) part.old part.new }
 {
+    let first = usize::from(t.first);
+    let second = usize::from(t.second);
     let p = first_place(lists, index, side, first);
     if part.len() == 1 {
         part[0] = p;
@@ -180,44 +181,26 @@ fn put_side(
         put_two(part, p, q);
         return;
     }
-    let mut low = first;
-    let mut high = second;
-    if q < p {
-        low = second;
-        high = first;
-    }
+    let (low, high) = if q < p {
+        (second, first)
+    } else {
+        (first, second)
+    };
     put_both(lists, index, low, high, side, part, spare);
 }
 
-// The inputs of a transition and behind them its outputs, into its part of the arcs.
+/// The inputs of a transition and behind them its outputs, into its part of the arcs.
 pub fn put_arcs(
-    lists: &[u16],
-    index: &[u16],
-    first: usize,
-    second: usize,
+    lists: &[Node],
+    index: &[Told],
+    t: Transition,
     inputs: usize,
     part: &mut [u16],
     spare: &mut [u16],
 )
-    requires { (first ≤ 65535) × (second ≤ 65535) × (inputs ≡ item_arcs (told_count index.now Inputs) (item_of first second)) × (length part.old ≡ inputs + item_arcs (told_count index.now Outputs) (item_of first second)) × (inputs ≤ 2048) × (length part.old ≤ inputs + 2048) }
-    ensures { PlacedBoth lists.now index.now (item_of first second) part.new }
+    requires { (inputs ≡ item_arcs (told_count (told_table index.now) Inputs) (item_of t.first t.second)) × (length part.old ≡ inputs + item_arcs (told_count (told_table index.now) Outputs) (item_of t.first t.second)) × (inputs ≤ 2048) × (length part.old ≤ inputs + 2048) }
+    ensures { PlacedBoth (node_table lists.now) (told_table index.now) (item_of t.first t.second) part.new }
 {
-    put_side(
-        lists,
-        index,
-        first,
-        second,
-        Side::Inputs,
-        &mut part[..inputs],
-        spare,
-    );
-    put_side(
-        lists,
-        index,
-        first,
-        second,
-        Side::Outputs,
-        &mut part[inputs..],
-        spare,
-    );
+    put_side(lists, index, t, Side::Inputs, &mut part[..inputs], spare);
+    put_side(lists, index, t, Side::Outputs, &mut part[inputs..], spare);
 }

@@ -17,12 +17,13 @@ use Rattle.algebra.specs.Arcs.{numbers}
 use Rattle.algebra.proofs.Lengths.{entries_of, internals_of, exits_of, places_length}
 use Rattle.plan.specs.inner.Nodes.{node_count}
 use Rattle.plan.specs.inner.Table.{tag_at, after_at, values}
+use Rattle.plan.specs.inner.Numbers.{spelt}
 use Rattle.plan.proofs.Stands.{stands_take}
 use Rattle.plan.proofs.NodeValues.{table_node}
 use Rattle.boxes.specs.inner.NodeCounts.{box_counts, node_counts}
 use Rattle.arcs.specs.inner.Moves.{Kind, Entry, Exit, Operand, First, Second, Third, Move, passes, own, sequence_move, choice_move, parallel_move, loop_move}
 use Rattle.boxes.specs.inner.Counted.{counts_at}
-use Rattle.arcs.specs.inner.Nodes.{At}
+use Rattle.arcs.specs.inner.Nodes.{first_at, At}
 use Rattle.arcs.specs.inner.Spreads.{Spreads, placed, plain, list_of, under}
 use Rattle.net.specs.declared.Side.{Side}
 use Rattle.net.specs.declared.Side.TheVariants.{Inputs, Outputs}
@@ -76,21 +77,21 @@ module _ (rows counts : List ℕ) (nodes : ℕ) (R : Expr) where
         (sym (read ∙ ap₂ (λ x y. two_put m lists k (after_at rows (k + 1)) x y) e f ∙ ap (λ z. two_put m lists k z (sizes E) (sizes F)) second))
         (two_next rows counts nodes R lists k n P s h fit E F ats m₁ m₂ p l stays)
 
-    node_goes : (X : Expr) → (tag_at rows k ≡ 1 → ⊥) → At rows counts nodes k n X → Leads R n X s → AllFit 2048 X s → Goes lists (operands_put rows counts k (tag_at rows k) lists) k n X
+    node_goes : (X : Expr) → (tag_at rows k ≡ 1 → ⊥) → At rows counts nodes k n X → Leads R n X s → AllFit 2048 X s → Goes lists (operands_put rows counts k (spelt (tag_at rows k)) lists) k n X
     unfolding actions node_count
     node_goes (action l) inner at leads fit = absurd (inner (kids.tag_is rows counts nodes (action l) at))
     node_goes (sequence E F) inner at leads fit =
         ends (E ∷ (F ∷ [])) (omega arith) (omega arith)
         (two_goes (sequence E F) E F sequence_move (kids.sequence_parts rows counts nodes E F at) (sequence_parts E F) (sequence_leads R n s E F leads) fit (tt, tt, tt, tt)
-        (ap (λ t. operands_put rows counts k t lists) (kids.tag_is rows counts nodes (sequence E F) at)))
+        (ap (λ t. operands_put rows counts k (spelt t) lists) (kids.tag_is rows counts nodes (sequence E F) at)))
     node_goes (choice E F) inner at leads fit =
         ends (E ∷ (F ∷ [])) (omega arith) (omega arith)
         (two_goes (choice E F) E F choice_move (kids.choice_parts rows counts nodes E F at) (choice_parts E F) (choice_leads R n s E F leads) fit (tt, tt, tt, tt)
-        (ap (λ t. operands_put rows counts k t lists) (kids.tag_is rows counts nodes (choice E F) at)))
+        (ap (λ t. operands_put rows counts k (spelt t) lists) (kids.tag_is rows counts nodes (choice E F) at)))
     node_goes (parallel E F) inner at leads fit =
         ends (E ∷ (F ∷ [])) (omega arith) (omega arith)
         (two_goes (parallel E F) E F (λ o kind e f. parallel_move o kind e) (kids.parallel_parts rows counts nodes E F at) (parallel_parts E F) (parallel_leads R n s E F leads) fit (tt, tt, tt, tt)
-        (ap (λ t. operands_put rows counts k t lists) (kids.tag_is rows counts nodes (parallel E F) at)))
+        (ap (λ t. operands_put rows counts k (spelt t) lists) (kids.tag_is rows counts nodes (parallel E F) at)))
     node_goes (loop E F G) inner at leads fit =
         let (ats, last) = kids.loop_parts rows counts nodes E F G at in
         let p = loop_parts E F G in
@@ -103,8 +104,8 @@ module _ (rows counts : List ℕ) (nodes : ℕ) (R : Expr) where
         let e = counts_are rows counts nodes R (k + 1) n E (under (λ k. loop_move First k (sizes E) (sizes F) (sizes G)) s) ats.0 fe.fit in
         let f = ap (counts_at counts) second ∙ counts_are rows counts nodes R (k + 1 + node_count E) (n + actions E) F (under (λ k. loop_move Second k (sizes E) (sizes F) (sizes G)) s) ats.1 ff.fit in
         let g = ap (counts_at counts) third ∙ counts_are rows counts nodes R (k + 1 + node_count E + node_count F) (n + actions E + actions F) G (under (λ k. loop_move Third k (sizes E) (sizes F) (sizes G)) s) last fg.fit in
-        let q : operands_put rows counts k (tag_at rows k) lists ≡ three_put lists k (k + 1 + node_count E) (k + 1 + node_count E + node_count F) (sizes E) (sizes F) (sizes G) =
-        ap (λ t. operands_put rows counts k t lists) (kids.tag_is rows counts nodes (loop E F G) at)
+        let q : operands_put rows counts k (spelt (tag_at rows k)) lists ≡ three_put lists k (k + 1 + node_count E) (k + 1 + node_count E + node_count F) (sizes E) (sizes F) (sizes G) =
+        ap (λ t. operands_put rows counts k (spelt t) lists) (kids.tag_is rows counts nodes (loop E F G) at)
         ∙ ap₂ (λ x y. three_put lists k (after_at rows (k + 1)) (after_at rows (after_at rows (k + 1))) x y (counts_at counts (after_at rows (after_at rows (k + 1))))) e f
         ∙ ap (λ x. three_put lists k (after_at rows (k + 1)) (after_at rows (after_at rows (k + 1))) (sizes E) (sizes F) x) g
         ∙ ap₂ (λ x y. three_put lists k x y (sizes E) (sizes F) (sizes G)) second third in
@@ -113,7 +114,7 @@ module _ (rows counts : List ℕ) (nodes : ℕ) (R : Expr) where
         (three_next rows counts nodes R lists k n (loop E F G) s h fit E F ats (λ k. loop_move First k (sizes E) (sizes F) (sizes G)) (λ k. loop_move Second k (sizes E) (sizes F) (sizes G)) (p.0, p.1) (l.0, l.1) (tt, tt, tt, tt)
         G last (λ k. loop_move Third k (sizes E) (sizes F) (sizes G)) p.2 l.2 tt tt))
     node_goes (scope a E) inner at leads fit =
-        subst (λ o. Goes lists o k n (scope a E)) (sym (ap (λ t. operands_put rows counts k t lists) (kids.tag_is rows counts nodes (scope a E) at)))
+        subst (λ o. Goes lists o k n (scope a E)) (sym (ap (λ t. operands_put rows counts k (spelt t) lists) (kids.tag_is rows counts nodes (scope a E) at)))
         (ends (E ∷ []) (omega arith) (omega arith)
         (one_next rows counts nodes R lists k n (scope a E) s h fit E (kids.scope_part rows counts nodes E at) (scope_part a E) (scope_leads R n s a E leads)))
 
@@ -155,7 +156,7 @@ module _ (rows counts : List ℕ) (nodes : ℕ) (R : Expr) where
 
   module _ (few : length (places 0 R) ≤ place_limit) (small : nodes ≤ 65535) where
     -- The next is an action: its own lists are its places in the whole.
-    module _ (lists index index' : List ℕ) (k : ℕ) (put : ActionPut rows lists k index index') (n l : ℕ) (x : Knot rows counts nodes R lists k k n (action l)) (inside : k < nodes) (reach : 11 * nodes ≤ length lists) (room : 3 * n + 3 ≤ length index) where
+    module _ (lists index index' : List ℕ) (k : ℕ) (put : ActionPut (first_at rows k) lists k index index') (n l : ℕ) (x : Knot rows counts nodes R lists k k n (action l)) (inside : k < nodes) (reach : 11 * nodes ≤ length lists) (room : 3 * n + 3 ≤ length index) where
       abbrev s : Spreads
       s = x.spreads
 
@@ -216,7 +217,7 @@ module _ (rows counts : List ℕ) (nodes : ℕ) (R : Expr) where
           go (yes b) = told_kept lists lists index index' k n (omega arith) (λ j l. refl) index_low p i b
           go (no b) = let e : n ≡ i = omega arith in subst (λ j. Told lists index' R j × (get_or index' (3 * j) 0 < k + 1)) e (told, omega (arith, node_told))
 
-    pub action_step : (lists index index' : List ℕ) (k : ℕ) → k < nodes → tag_at rows k ≡ 1 → ActionPut rows lists k index index' → (n : ℕ) (Xs : List Expr) → Ahead rows counts nodes R lists k k n Xs → Rooted lists
+    pub action_step : (lists index index' : List ℕ) (k : ℕ) → k < nodes → tag_at rows k ≡ 1 → ActionPut (first_at rows k) lists k index index' → (n : ℕ) (Xs : List Expr) → Ahead rows counts nodes R lists k k n Xs → Rooted lists
         → 11 * nodes ≤ length lists → 3 * actions R ≤ length index → Passed lists index k n → Reached lists index' (k + 1)
     unfolding Ahead node_count actions
     action_step lists index index' k inside tag put n [] a rooted room long p = absurd (omega (arith, a.0))
@@ -238,13 +239,13 @@ module _ (rows counts : List ℕ) (nodes : ℕ) (R : Expr) where
     action_step lists index index' k inside tag put n (scope a E ∷ Xs) (x, xs) rooted room long p = absurd (omega (arith, tag, kids.tag_is rows counts nodes (scope a E) x.at))
 
     -- The next is no action.
-    pub operator_step : (lists other index : List ℕ) (k : ℕ) → k < nodes → (tag_at rows k ≡ 1 → ⊥) → other ≡ operands_put rows counts k (tag_at rows k) lists → (n : ℕ) (Xs : List Expr) → Ahead rows counts nodes R lists k k n Xs → Rooted lists
+    pub operator_step : (lists other index : List ℕ) (k : ℕ) → k < nodes → (tag_at rows k ≡ 1 → ⊥) → other ≡ operands_put rows counts k (spelt (tag_at rows k)) lists → (n : ℕ) (Xs : List Expr) → Ahead rows counts nodes R lists k k n Xs → Rooted lists
         → 11 * nodes ≤ length lists → 3 * actions R ≤ length index → Passed lists index k n → Reached other index (k + 1)
     unfolding Ahead
     operator_step lists other index k inside inner put n [] a rooted room long p = absurd (omega (arith, a.0))
     operator_step lists other index k inside inner put n (X ∷ Xs) (x, xs) rooted room long p =
         let g = node_goes lists k n x.spreads (record { has = x.has; rooted = rooted; room = room; small = small }) X inner x.at x.leads x.fit in
-        let after = operands_put rows counts k (tag_at rows k) lists in
+        let after = operands_put rows counts k (spelt (tag_at rows k)) lists in
         subst (λ o. Reached o index (k + 1)) (sym put) (record {
           n = n;
           parts = parts_of X ++ Xs;

@@ -1,27 +1,19 @@
--- `put_node` meets its contract: two lists and a number, one after another; where the table does not reach nothing is stored.
+-- `put_node` meets its contract: the row is stored where the table reaches. Each number of a node has 16 bits, so `%` changes none.
 -- Assumes nothing.
-use Prim.Native.Nat.{◌+◌, ◌*◌, ◌%◌}
-use native.Mathlib.Omega.{arith}
-use mathlib.Core.Path.{refl, ◌∙◌, ap}
-use lib.ListN.{length, set, length-set}
-use lib.Seq.{sets}
-use borrow.Author.Tests.{le-leb, lt-leb}
-use Rattle.lists.specs.inner.Lists.{list_numbers}
-use mathlib.Core.List.{[]}
-use Rattle.lists.proofs.RowsPut.{row_stored}
+use borrow.Author.Rules.{rules}
+use Rattle.lists.specs.inner.Lists.{ShortNode}
+use Rattle.lists.proofs.NodeRows.{node_stored, none_stored}
 use Rattle.lists.proofs.put_node.Goals as goal
 
-pub returns-then-lists-at : goal.returns-then-lists-at
-returns-then-lists-at c =
-    let a = c.args in rw (lt-leb (11 * a.c + 11) (length a.lists.now) c.if-lists-at.true) refl
-
-pub shape_of-lists : goal.shape_of-lists
-shape_of-lists c =
-    simp length-set (c.lists-2-1.given ∙ c.lists-1.given)
-
-pub returns : goal.returns
-returns c =
+pub returns-then-c-lists : goal.returns-then-c-lists
+returns-then-c-lists c =
     let a = c.args in
-    rw (le-leb (11 * a.c + 11) (length a.lists.now) (omega (arith, c.if-lists-at.false)))
-    (ap (λ l. set l (11 * a.c + 10) (a.internal % 65536)) (c.put_list-2.ensures ∙ ap (λ l. sets l (11 * a.c + 5) (list_numbers a.exits [])) c.put_list.ensures)
-    ∙ row_stored a.lists.now (11 * a.c) a.entries a.exits a.internal)
+    let short : ShortNode (record { entries = a.entries; exits = a.exits; internal = a.internal }) = record {
+      entries = record { base = search rules; width = search rules; times = search rules; step = search rules; up = search rules };
+      exits = record { base = search rules; width = search rules; times = search rules; step = search rules; up = search rules };
+      internal = search rules;
+    } in
+    node_stored a.lists.now a.c short c.if-c-lists.true
+
+pub returns-else-c-lists : goal.returns-else-c-lists
+returns-else-c-lists c = let a = c.args in none_stored a.lists.now a.c a.entries a.exits a.internal c.if-c-lists.false

@@ -14,6 +14,10 @@ OneList = declared.List
 abbrev pub one_list : ℕ → ℕ → ℕ → ℕ → ℕ → OneList
 one_list base width times step up = record { base = base; width = width; times = times; step = step; up = up }
 
+-- Each number in 16 bits.
+abbrev pub cut : OneList → OneList
+cut s = one_list (s.base % 65536) (s.width % 65536) (s.times % 65536) (s.step % 65536) (s.up % 65536)
+
 -- Numbers of 16 bits.
 pub record Short (s : OneList) : Type 0 where
   pub base : s.base ≤ 65535

@@ -1,10 +1,26 @@
--- `first_place` meets its contract: the node's row begins with it.
+-- `first_place` meets its contract: the list of the action's node begins with it.
 -- Assumes nothing.
-use mathlib.Core.Path.{◌∙◌, ap}
+use Prim.Native.Nat.{◌*◌}
+use mathlib.Core.Path.{◌≡◌, sym, ◌∙◌, ap}
 use lib.ListN.{get_or}
+use Rattle.lists.specs.declared.List as declared
 use Rattle.lists.specs.inner.Lists.{place_of}
+use Rattle.lists.specs.inner.Numbers.{node_table, no_node}
+use Rattle.lists.proofs.NodeRows.{list_of_row, past_rows}
+use Rattle.spread.specs.declared.Told.{Told}
+use Rattle.spread.specs.inner.Numbers.{told_table}
 use Rattle.sides.proofs.first_place.Goals as goal
 
-pub returns : goal.returns
-returns c =
-    let a = c.args in c.number_at.ensures ∙ ap (λ at. get_or a.lists.now at 0) (c.place_of.ensures.0 ∙ ap (place_of a.side) c.node_of.ensures.0)
+pub returns-then-node-lists : goal.returns-then-node-lists
+returns-then-node-lists c =
+    let a = c.args in
+    let node : c.from-node.result ≡ get_or (told_table a.index.now) (3 * a.i) 0 = c.from-node.ensures ∙ ap (λ (t : Told). t.node) c.told_at.ensures in
+    ap (λ (l : declared.List). l.base) (c.on.ensures ∙ sym (list_of_row a.lists.now c.from-node.result no_node c.if-node-lists.true a.side))
+    ∙ ap (λ k. get_or (node_table a.lists.now) (place_of a.side k) 0) node
+
+pub returns-else-node-lists : goal.returns-else-node-lists
+returns-else-node-lists c =
+    let a = c.args in
+    let node : c.from-node.result ≡ get_or (told_table a.index.now) (3 * a.i) 0 = c.from-node.ensures ∙ ap (λ (t : Told). t.node) c.told_at.ensures in
+    sym (past_rows a.lists.now a.side c.from-node.result c.if-node-lists.false)
+    ∙ ap (λ k. get_or (node_table a.lists.now) (place_of a.side k) 0) node

@@ -6,11 +6,13 @@ use mathlib.Core.Path.{sym, ◌∙◌}
 use lib.ListN.{length, replicate}
 use lib.Seq.{length-take-le}
 use Rattle.sides.proofs.Sides.{pair_in_order}
+use Rattle.lists.specs.inner.Numbers.{node_table}
+use Rattle.spread.specs.inner.Numbers.{told_table}
 use Rattle.sides.proofs.put_both.Goals as goal
 
 pub returns-then-is_in_order : goal.returns-then-is_in_order
 returns-then-is_in_order c =
-    pair_in_order c.args.lists.now c.args.index.now c.args.side c.args.i c.args.j c.args.part.now c.count_of-m.ensures.0 c.put_pair.ensures (c.is_in_order.ensures c.if-is_in_order.true)
+    pair_in_order (node_table c.args.lists.now) (told_table c.args.index.now) c.args.side c.args.i c.args.j c.args.part.now c.count_of-m.ensures.0 c.put_pair.ensures (c.is_in_order.ensures c.if-is_in_order.true)
 
 pub slice_bounds-put_merged-end-then-n-spare : goal.slice_bounds-put_merged-end-then-n-spare
 slice_bounds-put_merged-end-then-n-spare c =

@@ -4,6 +4,8 @@ use native.Mathlib.Omega.{arith}
 use mathlib.Core.Path.{sym}
 use lib.Seq.{length-take-le}
 use Rattle.sides.proofs.Sides.{pair_merged}
+use Rattle.lists.specs.inner.Numbers.{node_table}
+use Rattle.spread.specs.inner.Numbers.{told_table}
 use Rattle.sides.proofs.put_merged.Goals as goal
 
 pub slice_bounds-merge-end : goal.slice_bounds-merge-end
@@ -12,4 +14,4 @@ slice_bounds-merge-end c =
 
 pub returns : goal.returns
 returns c =
-    pair_merged c.args.lists.now c.args.index.now c.args.side c.args.i c.args.j c.args.part.now c.requires.2 c.put_pair.ensures c.merge.ensures
+    pair_merged (node_table c.args.lists.now) (told_table c.args.index.now) c.args.side c.args.i c.args.j c.args.part.now c.requires.0 c.put_pair.ensures c.merge.ensures

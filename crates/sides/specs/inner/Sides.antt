@@ -11,7 +11,12 @@ use Rattle.boxes.specs.inner.ArcCounts.{item_arcs}
 use Rattle.arcs.specs.inner.Moves.{passes}
 use Rattle.net.specs.declared.Side.{Side}
 use Rattle.net.specs.declared.Side.TheVariants.{Inputs, Outputs}
+use Rattle.spread.specs.declared.Told as declared
 use Rattle.spread.specs.inner.Spread.{count_of, Told}
+
+-- What the index tells of action i; past the end zeros.
+abbrev pub told_row : List ℕ → ℕ → declared.Told
+told_row index i = record { node = get_or index (3 * i) 0; inputs = get_or index (3 * i + 1) 0; outputs = get_or index (3 * i + 2) 0 }
 
 -- How many places the index tells of an action: on one side, and on both.
 abbrev pub told_count : List ℕ → Side → ℕ → ℕ

@@ -1,10 +1,12 @@
 -- What the pass over the node table puts for each node. These definitions follow the code.
-use Rattle.std.specs.Prelude.{ℕ, ◌+◌, ◌*◌, ◌%◌, ◌≤◌, ◌≡◌, cond, List, [], ◌∷◌, length, eqb, leb}
+use Rattle.std.specs.Prelude.{ℕ, ◌+◌, ◌*◌, ◌%◌, ◌≤◌, ◌≡◌, cond, List, [], ◌∷◌, Result, Ok, Err, length, leb}
 use Rattle.std.proofs.lemmas.List.Edits.{sets}
+use Rattle.field.specs.declared.Fault.{Fault}
+use Rattle.plan.specs.declared.table.Tag.{Tag}
+use Rattle.plan.specs.declared.table.Tag.TheVariants.{Action, Sequence, Choice, Parallel, Loop, Scope}
 use Rattle.plan.specs.inner.Table.{after_at}
 use Rattle.arcs.specs.inner.Moves.{Kind, Entry, Internal, Exit, Operand, First, Second, Third, Move, shift, sequence_move, choice_move, parallel_move, loop_move}
 use Rattle.boxes.specs.inner.Counted.{counts_at}
-use Rattle.arcs.specs.inner.Nodes.{first_at}
 use Rattle.arcs.specs.inner.Spreads.{Spread, placed}
 use Rattle.net.specs.declared.Side.{Side}
 use Rattle.net.specs.declared.Side.TheVariants.{Inputs, Outputs}
@@ -30,18 +32,27 @@ three_put lists k second third e f g =
     k second (loop_move Second Entry e f g) (loop_move Second Exit e f g) e.internals)
     k third (loop_move Third Entry e f g) (loop_move Third Exit e f g) (e.internals + f.internals)
 
--- By the node's tag.
-abbrev pub operands_put : List ℕ → List ℕ → ℕ → ℕ → List ℕ → List ℕ
-operands_put rows counts k tag lists =
+-- Those of the two operands behind a node, as the tables tell.
+abbrev pub both_put : (Operand → Kind → Counts → Counts → Move) → List ℕ → List ℕ → ℕ → List ℕ → List ℕ
+both_put m rows counts k lists =
+    let second = after_at rows (k + 1) in
+    two_put m lists k second (counts_at counts (k + 1)) (counts_at counts second)
+
+abbrev pub all_three_put : List ℕ → List ℕ → ℕ → List ℕ → List ℕ
+all_three_put rows counts k lists =
     let second = after_at rows (k + 1) in
     let third = after_at rows second in
-    let e = counts_at counts (k + 1) in
-    let f = counts_at counts second in
-    cond (eqb tag 6) (one_put lists k)
-    (cond (eqb tag 5) (three_put lists k second third e f (counts_at counts third))
-    (cond (eqb tag 2) (two_put sequence_move lists k second e f)
-    (cond (eqb tag 3) (two_put choice_move lists k second e f)
-    (two_put (λ o kind e f. parallel_move o kind e) lists k second e f))))
+    three_put lists k second third (counts_at counts (k + 1)) (counts_at counts second) (counts_at counts third)
+
+-- By the node's tag; no row of a plan that is no action has another tag than these.
+abbrev pub operands_put : List ℕ → List ℕ → ℕ → Result Tag Fault → List ℕ → List ℕ
+operands_put rows counts k (Ok Action) lists = both_put (λ o kind e f. parallel_move o kind e) rows counts k lists
+operands_put rows counts k (Ok Sequence) lists = both_put sequence_move rows counts k lists
+operands_put rows counts k (Ok Choice) lists = both_put choice_move rows counts k lists
+operands_put rows counts k (Ok Parallel) lists = both_put (λ o kind e f. parallel_move o kind e) rows counts k lists
+operands_put rows counts k (Ok Loop) lists = all_three_put rows counts k lists
+operands_put rows counts k (Ok Scope) lists = one_put lists k
+operands_put rows counts k (Err fault) lists = both_put (λ o kind e f. parallel_move o kind e) rows counts k lists
 
 -- A number is the count of the places that node k's list has for its first position, whatever spread that is.
 abbrev pub CountsOf : List ℕ → Side → ℕ → ℕ → Type 0
@@ -54,10 +65,10 @@ index_numbers k inputs outputs = k % 65536 ∷ (inputs % 65536 ∷ (outputs % 65
 abbrev pub index_put : List ℕ → ℕ → List ℕ → List ℕ
 index_put index i numbers = cond (leb (3 * i + 3) (length index)) (sets index (3 * i) numbers) index
 
--- And of the action that node k is.
-pub record ActionPut (rows lists : List ℕ) (k : ℕ) (index index' : List ℕ) : Type 0 where
+-- And of the action that node k is, by its number.
+pub record ActionPut (first : ℕ) (lists : List ℕ) (k : ℕ) (index index' : List ℕ) : Type 0 where
   pub inputs : ℕ
   pub outputs : ℕ
-  pub stored : index' ≡ index_put index (first_at rows k) (index_numbers k inputs outputs)
+  pub stored : index' ≡ index_put index first (index_numbers k inputs outputs)
   pub inputs_are : CountsOf lists Inputs k inputs
   pub outputs_are : CountsOf lists Outputs k outputs

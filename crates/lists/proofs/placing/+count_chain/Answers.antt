@@ -1,47 +1,31 @@
 -- `count_chain` meets its contract, the node number falling: the copies of one list, and then those of the list that it goes on with.
 -- Assumes nothing.
+use Prim.Native.Nat.{◌*◌, ◌%◌}
 use native.Mathlib.Omega.{arith}
-use Rattle.boxes.proofs.CountedByTag.{product_fits}
-use Rattle.lists.proofs.Chains.{counts_none, counts_never, counts_next}
+use mathlib.Core.Path.{refl, sym, ◌∙◌, ap₂, subst}
+use mathlib.Core.Logic.{inl, inr}
+use Rattle.lists.specs.inner.Lists.{place_of}
+use Rattle.lists.specs.inner.Numbers.{node_table}
+use Rattle.lists.proofs.NodeRows.{list_of_row}
+use Rattle.lists.proofs.Chains.{Counts, counts_none, counts_never, counts_next}
 use Rattle.lists.proofs.placing.+count_chain.Goals as goal
 
-pub returns-then-times-eq0 : goal.returns-then-times-eq0
-returns-then-times-eq0 t c =
+pub returns-then-list-eq0 : goal.returns-then-list-eq0
+returns-then-list-eq0 t c =
     let a = c.args in
-    record {
-      low = c.requires.3;
-      many = counts_none a.lists.now a.side a.below a.times a.up a.count c.if-times-eq0.true;
-    }
-
-pub returns-then-below-up : goal.returns-then-below-up
-returns-then-below-up t c =
-    let a = c.args in
-    record {
-      low = c.requires.3;
-      many = counts_never a.lists.now a.side a.below a.times a.up a.count a.count c.if-times-eq0.false c.if-below-up.true;
-    }
-
-pub place_of-requires : goal.place_of-requires
-place_of-requires t c =
-    c.requires.2
-
-pub list_at-next-requires : goal.list_at-next-requires
-list_at-next-requires t c =
-    omega (arith, c.place_of.ensures.1, c.requires.0, c.if-below-up.false)
-
-pub overflow_mul-times : goal.overflow_mul-times
-overflow_mul-times t c =
-    omega (arith, product_fits c.requires.1 c.requires.3)
-
-pub count_chain-requires : goal.count_chain-requires
-count_chain-requires t c =
-    (omega (arith, c.decreases, c.if-below-up.false), (omega (arith, c.requires.0, c.if-below-up.false), c.list_at-next.ensures.1.times, c.list_at-next.ensures.1.up, omega arith))
+    let l = node_table a.lists.now in
+    elim c.then-list-eq0.either [
+      | inl z ↦ counts_none l a.side a.below a.list.times a.list.up a.count z
+      | inr (some, b) ↦ counts_never l a.side a.below a.list.times a.list.up a.count a.count some (omega (arith, b, c.from-up.ensures))
+    ]
 
 pub returns : goal.returns
 returns t c =
     let a = c.args in
-    let r = c.list_at-next in
-    record {
-      low = c.count_chain.ensures.low;
-      many = counts_next a.lists.now a.side a.below a.times a.up a.count c.count_chain.result c.place_of.result r.result c.if-times-eq0.false c.place_of.ensures.0 r.ensures.0 c.count_chain.ensures.many;
-    }
+    let l = node_table a.lists.now in
+    let r = c.on.result in
+    let up = c.from-up.result in
+    let n = c.count_chain.result in
+    let go = subst (λ m. Counts l a.side up r.times r.up m n) (c.short-copies.ensures ∙ ap₂ (λ x y. x * y % 65536) c.from.ensures c.from-2.ensures) c.count_chain.ensures in
+    subst (λ u. Counts l a.side a.below a.list.times u a.count n) c.from-up.ensures
+    (counts_next l a.side a.below a.list.times up a.count n (place_of a.side up) r c.if-list-eq0.false refl (c.on.ensures ∙ sym (list_of_row a.lists.now up _ (omega arith) a.side)) go)

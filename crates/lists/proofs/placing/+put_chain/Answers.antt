@@ -1,54 +1,46 @@
 -- `put_chain` meets its contract, the node number falling: the copies of one list, and then those of the list that it goes on with.
 -- Where a test fails, the table is no chain or has no room. Assumes nothing.
+use Prim.Native.Nat.{◌*◌}
 use native.Mathlib.Omega.{arith}
-use Rattle.boxes.proofs.CountedByTag.{product_fits}
-use Rattle.lists.proofs.Chains.{no_fewer, puts_none, puts_never, puts_next}
+use mathlib.Core.Path.{refl, sym, ◌∙◌, ap, subst}
+use mathlib.Core.Logic.{inl, inr}
+use Rattle.lists.specs.inner.Lists.{place_of}
+use Rattle.lists.specs.inner.Numbers.{node_table}
+use Rattle.lists.specs.inner.Placing.{CopiedOn}
+use Rattle.lists.proofs.NodeRows.{list_of_row}
+use Rattle.lists.proofs.Chains.{Puts, puts_none, puts_never, puts_next}
 use Rattle.lists.proofs.placing.+put_chain.Goals as goal
 
-pub returns-then-times-eq0 : goal.returns-then-times-eq0
-returns-then-times-eq0 t c =
+pub returns-then-list-eq0 : goal.returns-then-list-eq0
+returns-then-list-eq0 t c =
     let a = c.args in
-    puts_none a.lists.now a.side a.below a.times a.step a.up a.count a.out.now c.if-times-eq0.true
-
-pub returns-then-below-up : goal.returns-then-below-up
-returns-then-below-up t c =
-    let a = c.args in
-    puts_never a.lists.now a.side a.below a.times a.step a.up a.count a.out.now a.out.now c.if-times-eq0.false c.requires.4 (λ x y z. omega (arith, c.if-below-up.true))
-
-pub returns-then-out-count : goal.returns-then-out-count
-returns-then-out-count t c =
-    let a = c.args in
-    puts_never a.lists.now a.side a.below a.times a.step a.up a.count a.out.now a.out.now c.if-times-eq0.false c.requires.4 (λ x y z. omega (arith, c.if-out-count.true))
-
-pub overflow_mul-end : goal.overflow_mul-end
-overflow_mul-end t c =
-    omega (arith, product_fits {a = c.args.times} {b = c.args.count} c.requires.1 (omega (arith, c.if-out-count.false, c.requires.5)))
+    let l = node_table a.lists.now in
+    let n = a.list in
+    elim c.then-list-eq0.either [
+      | inl z ↦ puts_none l a.side a.below n.times n.step n.up a.count a.out.now z
+      | inr (inl (some, b)) ↦ puts_never l a.side a.below n.times n.step n.up a.count a.out.now a.out.now some c.requires.1 (λ x y z. omega (arith, b, c.from-up.ensures))
+      | inr (inr (some, b, k)) ↦ puts_never l a.side a.below n.times n.step n.up a.count a.out.now a.out.now some c.requires.1 (λ x y z. omega (arith, k))
+    ]
 
 pub returns-then-out-end : goal.returns-then-out-end
 returns-then-out-end t c =
     let a = c.args in
-    puts_never a.lists.now a.side a.below a.times a.step a.up a.count a.out.now a.out.now c.if-times-eq0.false c.requires.4 (λ x y z. omega (arith, c.if-out-end.true))
-
-pub put_copies-requires : goal.put_copies-requires
-put_copies-requires t c =
-    let a = c.args in
-    (c.requires.4, no_fewer a.times a.count (omega (arith, c.if-times-eq0.false)), omega (arith, c.if-out-end.false), c.requires.5, c.requires.2)
-
-pub list_at-next-requires : goal.list_at-next-requires
-list_at-next-requires t c =
-    omega (arith, c.place_of.ensures.1, c.requires.0, c.if-below-up.false)
-
-pub put_chain-requires : goal.put_chain-requires
-put_chain-requires t c =
-    let a = c.args in
-    let r = c.list_at-next.ensures.1 in
-    (omega (arith, c.decreases, c.if-below-up.false), (omega (arith, c.requires.0, c.if-below-up.false), r.times, r.step, r.up, omega (arith, no_fewer a.times a.count (omega (arith, c.if-times-eq0.false)), c.requires.4), omega (arith, c.put_copies.ensures.long, c.requires.5)))
+    let n = a.list in
+    puts_never (node_table a.lists.now) a.side a.below n.times n.step n.up a.count a.out.now a.out.now c.if-list-eq0.false c.requires.1
+    (λ x y z. omega (arith, c.if-out-end.true, ap (λ m. m * a.count) c.from.ensures))
 
 pub returns : goal.returns
 returns t c =
     let a = c.args in
-    let on = c.put_copies in
-    let at = c.place_of in
-    let r = c.list_at-next in
+    let l = node_table a.lists.now in
+    let n = a.list in
+    let r = c.on.result in
+    let up = c.from-up.result in
     let go = c.put_chain in
-    puts_next a.lists.now a.side a.below a.times a.step a.up a.count a.out.now on.new.out go.new.out at.result r.result c.if-times-eq0.false c.requires.4 on.ensures at.ensures.0 r.ensures.0 go.ensures
+    let on = c.put_copies in
+    let e = ap (λ m. m * a.count) c.from.ensures in
+    subst (λ u. Puts l a.side a.below n.times n.step u a.count a.out.now go.new.out) c.from-up.ensures
+    (puts_next l a.side a.below n.times n.step up a.count a.out.now on.new.out go.new.out (place_of a.side up) r c.if-list-eq0.false c.requires.1
+    (subst (λ m. CopiedOn n.step a.count m a.out.now on.new.out) e on.ensures) refl
+    (c.on.ensures ∙ sym (list_of_row a.lists.now up _ (omega arith) a.side))
+    (subst (λ m. Puts l a.side up r.times r.step r.up m on.new.out go.new.out) e go.ensures))

@@ -1,48 +1,48 @@
 -- `put_places` meets its contract: a run from the base, and then the copies, of which there may be none.
 -- Assumes nothing.
 use native.Mathlib.Omega.{arith}
-use mathlib.Core.Path.{◌≡◌}
-use lib.ListN.{length}
+use mathlib.Core.Path.{◌≡◌, refl, sym, ◌∙◌, subst}
+use mathlib.Core.Logic.{inl, inr}
+use mathlib.Core.List.{◌++◌}
+use lib.ListN.{length, drop}
 use borrow.Author.Rules.{rules}
-use Rattle.lists.proofs.Chains.{puts_none, placed_width, placed_longer, placed_put}
+use Rattle.lists.specs.inner.Lists.{place_of, list_row}
+use Rattle.lists.specs.inner.Numbers.{node_table}
+use Rattle.lists.specs.inner.Placing.{Stepped}
+use Rattle.lists.proofs.NodeRows.{table_length, list_of_row}
+use Rattle.lists.proofs.Placings.{steps_in_front}
+use Rattle.lists.proofs.Chains.{Puts, placed_width, placed_longer, placed_put}
 use Rattle.lists.proofs.placing.put_places.Goals as goal
 
 pub returns-then-lists-k : goal.returns-then-lists-k
 returns-then-lists-k c =
-    λ s reach. absurd (omega (arith, c.if-lists-k.true))
-
-pub list_at-s-requires : goal.list_at-s-requires
-list_at-s-requires c =
-    omega (arith, c.if-lists-k.false, c.place_of.ensures.1)
+    λ s reach. absurd (omega (arith, c.if-lists-k.true, reach, table_length c.args.lists.now))
 
 pub returns-then-width-eq0 : goal.returns-then-width-eq0
 returns-then-width-eq0 c =
     let a = c.args in
-    let at = c.place_of in
-    let r = c.list_at-s in
-    λ s reach told wide long small. absurd (omega (arith, c.if-width-eq0.true, placed_width a.lists.now a.side a.k at.result r.result at.ensures.0 r.ensures.0 s told))
-
-pub returns-then-out-width : goal.returns-then-out-width
-returns-then-out-width c =
-    let a = c.args in
-    let at = c.place_of in
-    let r = c.list_at-s in
-    λ s reach told wide long small. absurd (omega (arith, c.if-out-width.true, placed_longer a.lists.now a.side a.k at.result r.result at.ensures.0 r.ensures.0 s told))
-
-pub returns-then-times-eq0 : goal.returns-then-times-eq0
-returns-then-times-eq0 c =
-    let a = c.args in
-    let at = c.place_of in
-    let r = c.list_at-s in
-    let run = c.put_steps in
-    λ s reach told wide. placed_put a.lists.now a.side a.k at.result r.result at.ensures.0 r.ensures.0 s told a.out.now run.new.out run.new.out run.ensures (puts_none a.lists.now a.side _ _ _ _ _ run.new.out c.if-times-eq0.true) run.ensures.long
+    let l = node_table a.lists.now in
+    let r = c.on-list in
+    let e : r.result ≡ list_row l (place_of a.side a.k) = r.ensures ∙ sym (list_of_row a.lists.now a.k _ (omega arith) a.side) in
+    λ s reach told wide long small.
+    elim c.then-width-eq0.either [
+      | inl z ↦ absurd (omega (arith, z, c.from-width.ensures, placed_width l a.side a.k (place_of a.side a.k) r.result refl e s told))
+      | inr (some, room) ↦ absurd (omega (arith, room, c.from-width.ensures, placed_longer l a.side a.k (place_of a.side a.k) r.result refl e s told))
+    ]
 
 pub returns : goal.returns
 returns c =
     let a = c.args in
-    let at = c.place_of in
-    let r = c.list_at-s in
+    let l = node_table a.lists.now in
+    let r = c.on-list in
+    let e : r.result ≡ list_row l (place_of a.side a.k) = r.ensures ∙ sym (list_of_row a.lists.now a.k _ (omega arith) a.side) in
     let run = c.put_steps in
+    let w = c.from-width in
     let go = c.put_chain in
+    let mid = run.new.out ++ drop w.result a.out.now in
     let kept : length go.new.out ≡ length a.out.now = search rules in
-    λ s reach told wide. placed_put a.lists.now a.side a.k at.result r.result at.ensures.0 r.ensures.0 s told a.out.now run.new.out go.new.out run.ensures go.ensures kept
+    let front : Stepped r.result.base 1 r.result.width a.out.now mid =
+    subst (λ n. Stepped r.result.base 1 n a.out.now mid) w.ensures (steps_in_front (omega arith) run.ensures) in
+    let copies : Puts l a.side a.k r.result.times r.result.step r.result.up r.result.width mid go.new.out =
+    subst (λ n. Puts l a.side a.k r.result.times r.result.step r.result.up n mid go.new.out) w.ensures go.ensures in
+    λ s reach told wide. placed_put l a.side a.k (place_of a.side a.k) r.result refl e s told a.out.now mid go.new.out front copies kept

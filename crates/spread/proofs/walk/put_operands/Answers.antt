@@ -1,33 +1,17 @@
 -- `put_operands` meets its contract: each tag has its operands' rows, by the counts that the table has of them.
 -- Assumes nothing.
-use Rattle.spread.proofs.OperandsPut.{operands_scope, operands_loop, operands_sequence, operands_choice, operands_parallel}
+use mathlib.Core.Path.{◌≡◌, sym}
+use Rattle.std.proofs.Common.{rules}
+use Rattle.lists.specs.inner.Numbers.{node_table, no_node}
+use Rattle.lists.proofs.NodeRows.{node_of_row}
+use Rattle.spread.specs.inner.Walk.{one_put}
+use Rattle.spread.proofs.OperandsPut.{entries_kept, exits_kept, internal_kept, one_told}
 use Rattle.spread.proofs.walk.put_operands.Goals as goal
 
-pub returns-then-tag-eq-SCOPE : goal.returns-then-tag-eq-SCOPE
-returns-then-tag-eq-SCOPE c =
+pub returns-in-Ok-Scope : goal.returns-in-Ok-Scope
+returns-in-Ok-Scope c =
     let a = c.args in
-    operands_scope a.rows.now a.counts.now a.k a.tag a.lists.now c.if-tag-eq-SCOPE.true c.node_at-node.ensures.0 c.put_node.ensures
-
-pub returns-then-tag-eq-LOOP : goal.returns-then-tag-eq-LOOP
-returns-then-tag-eq-LOOP c =
-    let a = c.args in
-    operands_loop a.rows.now a.counts.now a.k a.tag a.lists.now c.if-tag-eq-SCOPE.false c.counts_at-e.ensures.0 c.row_number-second.ensures.0 c.counts_at-f.ensures.0
-    c.if-tag-eq-LOOP.true c.row_number-third.ensures.0 c.counts_at-g.ensures.0 c.put_loop.ensures
-
-pub returns-then-tag-eq-SEQUENCE : goal.returns-then-tag-eq-SEQUENCE
-returns-then-tag-eq-SEQUENCE c =
-    let a = c.args in
-    operands_sequence a.rows.now a.counts.now a.k a.tag a.lists.now c.if-tag-eq-SCOPE.false c.counts_at-e.ensures.0 c.row_number-second.ensures.0 c.counts_at-f.ensures.0
-    c.if-tag-eq-LOOP.false c.if-tag-eq-SEQUENCE.true c.put_sequence.ensures
-
-pub returns-then-tag-eq-CHOICE : goal.returns-then-tag-eq-CHOICE
-returns-then-tag-eq-CHOICE c =
-    let a = c.args in
-    operands_choice a.rows.now a.counts.now a.k a.tag a.lists.now c.if-tag-eq-SCOPE.false c.counts_at-e.ensures.0 c.row_number-second.ensures.0 c.counts_at-f.ensures.0
-    c.if-tag-eq-LOOP.false c.if-tag-eq-SEQUENCE.false c.if-tag-eq-CHOICE.true c.put_choice.ensures
-
-pub returns : goal.returns
-returns c =
-    let a = c.args in
-    operands_parallel a.rows.now a.counts.now a.k a.tag a.lists.now c.if-tag-eq-SCOPE.false c.counts_at-e.ensures.0 c.row_number-second.ensures.0 c.counts_at-f.ensures.0
-    c.if-tag-eq-LOOP.false c.if-tag-eq-SEQUENCE.false c.if-tag-eq-CHOICE.false c.put_parallel.ensures
+    let l = node_table a.lists.now in
+    let n = sym (node_of_row a.lists.now a.k no_node c.requires) in
+    let put : node_table c.put_node.new.lists ≡ one_put l a.k = one_told l a.k (entries_kept l a.k n) (exits_kept l a.k n) (internal_kept l a.k n) c.put_node.ensures in
+    search rules

@@ -1,14 +1,24 @@
 -- `put_parallel` meets its contract: the second operand's lists stand behind the first's in the node's own.
 -- Assumes nothing.
+use mathlib.Core.Path.{sym, ◌∙◌}
+use lib.ListN.{get_or}
 use Rattle.arcs.specs.inner.Moves.{parallel_move}
+use Rattle.lists.specs.declared.Node.{Node}
+use Rattle.lists.specs.inner.Lists.{cut, lower_by}
+use Rattle.lists.specs.inner.Numbers.{node_table, no_node}
+use Rattle.lists.proofs.NodeRows.{node_of_row}
 use Rattle.spread.proofs.OperandsPut.{entries_kept, exits_kept, internal_kept, internal_behind, of_entries, of_exits, two_told}
 use Rattle.spread.proofs.walk.put_parallel.Goals as goal
 
 pub returns : goal.returns
 returns c =
     let a = c.args in
-    let l = a.lists.now in
-    let n = c.requires.2 in
-    two_told l a.k a.second c.put_node.ensures c.put_node-2.ensures (λ o kind e f. parallel_move o kind e) a.e a.f
+    let l = node_table a.lists.now in
+    let node : Node = get_or a.lists.now a.k no_node in
+    let n = sym (node_of_row a.lists.now a.k no_node c.requires) in
+    two_told l a.k a.second (λ o kind e f. parallel_move o kind e) a.e a.f
     (entries_kept l a.k n) (exits_kept l a.k n) (internal_kept l a.k n)
-    (of_entries l a.k n 1 1 0 a.e.entries c.lowered-entries.ensures) (of_exits l a.k n 1 1 0 a.e.exits c.lowered-exits.ensures) (internal_behind l a.k n a.e.internals)
+    (of_entries l a.k n 1 1 0 a.e.entries (c.lowered-entries.ensures ∙ (λ t. cut (lower_by 1 1 0 (c.from.ensures t) a.k node.entries))))
+    (of_exits l a.k n 1 1 0 a.e.exits (c.lowered-exits.ensures ∙ (λ t. cut (lower_by 1 1 0 (c.from-2.ensures t) a.k node.exits))))
+    (internal_behind l a.k n c.number_behind-behind.result a.e.internals c.number_behind-behind.ensures)
+    c.put_node.ensures c.put_node-2.ensures
