@@ -27,6 +27,7 @@ fn is_exclusive(rows: &[Row], k: usize, exclusive: &[bool]) -> bool
     requires { (k < length rows.now) × (length rows.now ≤ 1366) }
     ensures { bit result ≡ exclusive_by (table_numbers rows.now) (bits exclusive.now) k }
 {
+    // A number that is no tag stands in no plan's row.
     let Ok(tag) = rows[k].tag() else {
         return true;
     };
@@ -41,6 +42,7 @@ fn is_exclusive(rows: &[Row], k: usize, exclusive: &[bool]) -> bool
     }
 }
 
+/// Whether a row is a loop's.
 fn is_loop(row: Row) -> bool
     ensures { result ≡ eqb row.tag 5 }
 {
