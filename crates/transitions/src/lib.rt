@@ -67,7 +67,7 @@ fn list_nodes(
     while at < end {
         let row = rows[at];
         let Ok(tag) = row.tag() else {
-            // No plan has such a row.
+            // No plan has such a row. It is passed here, so that the match names every tag and no more.
             at += 1;
             continue;
         };
