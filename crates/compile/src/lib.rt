@@ -12,7 +12,7 @@ use boxes::counts::Counts;
 use field::{Fault, Refusal};
 use judging::{NetCounts, SMALL_NODES, SMALL_PLAN, judge};
 use lists::Node;
-use net::tables_reach;
+use net::Lent;
 use plan::NODES;
 use plan::table::Row;
 use spread::Told;
@@ -35,6 +35,8 @@ fn compile_in<const N: usize>(
     let mut lists = [Node::default(); N];
     let mut index = [Told::default(); field::ACTION_LIMIT];
     let mut list = [Transition::default(); MOST];
+    // Room to merge two lists of places in; longer ones get room of their own.
+    let mut spare = [0; N];
     let net = judge(
         plan,
         &mut table,
@@ -43,14 +45,15 @@ fn compile_in<const N: usize>(
         &mut index,
         &mut list,
     )?;
-    if !tables_reach(
-        kinds,
-        rows,
-        arcs,
-        net.places,
-        net.transitions,
-        net.arcs,
-    ) {
+    let lent = Lent {
+        kinds: &*kinds,
+        rows: &*rows,
+        arcs: &*arcs,
+        places: net.places,
+        transitions: net.transitions,
+        arc_count: net.arcs,
+    };
+    if !lent.tables_reach() {
         return Err(Fault::TableTooShort.at(0));
     }
     let exits = net.places - net.entries - net.internals;
@@ -61,7 +64,7 @@ fn compile_in<const N: usize>(
         &list[..net.transitions],
         rows,
         arcs,
-        &mut [],
+        &mut spare,
     );
     Ok(net)
 }

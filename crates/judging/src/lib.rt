@@ -11,6 +11,8 @@ ghost use Rattle.field.specs.Says.{says};
 ghost use Rattle.algebra.specs.Expr.{Expr};
 ghost use Rattle.boxes.specs.Compile.{accept};
 ghost use Rattle.boxes.specs.inner.Counted.{counts_numbers};
+ghost use Rattle.lists.specs.inner.Numbers.{node_table};
+ghost use Rattle.spread.specs.inner.Numbers.{told_table};
 ghost use Rattle.transitions.specs.inner.Numbers.{most, list_numbers};
 ghost use Rattle.judging.specs.inner.Judging.{counts_told, net_counts, counted, Drawn};
 
@@ -87,7 +89,7 @@ pub fn judge(
     requires plan_in_bounds { length plan.now ≤ plan_limit → (length plan.now ≤ 3 * length table.old) × (length plan.now ≤ 3 * length counts.old) × (length plan.now ≤ 3 * length lists.old) }
     requires in_bounds { (256 ≤ length index.old) × (most ≤ length list.old) }
     ensures says { says counts_told result ≡ net_counts plan.now }
-    ensures drawn { (E : Expr) → accept plan.now ≡ good E → Drawn result (lists_numbers lists.new) (index_numbers index.new) (list_numbers list.new) E }
+    ensures drawn { (E : Expr) → accept plan.now ≡ good E → Drawn result (node_table lists.new) (told_table index.new) (list_numbers list.new) E }
 {
     let ready = front(plan, table, counts, list)?;
     spread(&table[..ready.nodes], counts, lists, index);
