@@ -22,8 +22,8 @@ use Rattle.tables.proofs.Counted.{both_sides, side_told, its_actions, item_told,
 use Rattle.sides.proofs.Runs.{sets_both}
 
 -- ---- one transition
--- A part of the arcs that was written whole.
-part_set : (arcs l : List ℕ) (at n : ℕ) → length l ≡ n → at + n ≤ length arcs → take at arcs ++ (l ++ drop n (drop at arcs)) ≡ sets arcs at l
+-- A part of a table that was written whole.
+pub part_set : (arcs l : List ℕ) (at n : ℕ) → length l ≡ n → at + n ≤ length arcs → take at arcs ++ (l ++ drop n (drop at arcs)) ≡ sets arcs at l
 part_set arcs l at n e h = ap (λ r. take at arcs ++ (l ++ r)) (drop-drop n at arcs ∙ ap (λ k. drop (at + k) arcs) (sym e)) ∙ sym (append_assoc (take at arcs) l (drop (at + length l) arcs)) ∙ sym (sets-eq l arcs at (omega arith))
 
 module _ {lists index : List ℕ} {E : Expr} (d : Drafted lists index E) (list : List ℕ) (t at : ℕ) (m : Memᴰ (listed_at list t) (transitions 0 E)) where

@@ -8,21 +8,15 @@ const INTERNAL: u8 = 2;
 
 const EXIT: u8 = 3;
 
-// So many places from a number on are of one kind.
+/// So many places from a number on are of one kind.
 pub fn write_run(kinds: &mut [u8], start: usize, count: usize, kind: u8)
     requires { start + count ≤ length kinds.old }
     ensures { kinds.new ≡ sets kinds.old start (replicate count kind) }
 {
-    let mut at = start;
-    let mut left = count;
-    while 0 < left {
-        kinds[at] = kind;
-        at += 1;
-        left -= 1;
-    }
+    kinds[start..start + count].fill(kind);
 }
 
-// The kinds of all places; what lies behind them is not written.
+/// The kinds of all places; what lies behind them is not written.
 pub fn write_kinds(kinds: &mut [u8], entries: usize, internals: usize, exits: usize)
     requires { (entries + internals + exits ≤ length kinds.old) × (entries + internals + exits ≤ 2048) }
     ensures { kinds.new ≡ replicate entries 1 ++ (replicate internals 2 ++ replicate exits 3) ++ drop (entries + internals + exits) kinds.old }

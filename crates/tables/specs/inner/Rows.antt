@@ -4,12 +4,17 @@ use Rattle.std.proofs.lemmas.List.Edits.{sets}
 use Rattle.algebra.specs.Expr.{Expr, actions}
 use Rattle.algebra.specs.Item.{Item}
 use Rattle.algebra.specs.Net.{Transition}
+use Rattle.transitions.specs.declared.Transition as declared
 use Rattle.algebra.specs.Transitions.{Labelled, transitions}
 use Rattle.algebra.specs.Arcs.{net_of}
 use Rattle.net.specs.Tables.{item_of, rows_from, arcs_of}
 use Rattle.boxes.specs.inner.ArcCounts.{item_arcs}
 use Rattle.net.specs.declared.Side.{Side}
 use Rattle.sides.specs.inner.Sides.{told_count, told_arcs, Drafted}
+
+-- What stands past the list's end.
+abbrev pub no_transition : declared.Transition
+no_transition = record { label = 0; first = 0; second = 0 }
 
 -- Transition t of the list, three numbers to each, and so many from t on.
 abbrev pub item_at : List ℕ → ℕ → Item

@@ -1,31 +1,15 @@
--- `put_row` meets its contract: six stores, one after another, are the run.
+-- `put_row` meets its contract: the part that the row is copied into is the row.
 -- Assumes nothing.
-use Prim.Native.Nat.{◌*◌}
+use Prim.Native.Nat.{◌*◌, ◌+◌, ◌-◌}
 use native.Mathlib.Omega.{arith}
-use lib.ListN.{length-set}
-use Rattle.sides.proofs.Runs.{six_stored}
+use mathlib.Core.Path.{◌∙◌, ap}
+use lib.ListN.{length}
+use lib.Seq.{sets}
+use Rattle.tables.proofs.Puts.{part_set}
 use Rattle.tables.proofs.rows.put_row.Goals as goal
-
-pub bounds-rows-at-2 : goal.bounds-rows-at-2
-bounds-rows-at-2 c =
-    simp length-set (omega (arith, c.requires))
-
-pub bounds-rows-at-3 : goal.bounds-rows-at-3
-bounds-rows-at-3 c =
-    simp length-set (omega (arith, c.requires))
-
-pub bounds-rows-at-4 : goal.bounds-rows-at-4
-bounds-rows-at-4 c =
-    simp length-set (omega (arith, c.requires))
-
-pub bounds-rows-at-5 : goal.bounds-rows-at-5
-bounds-rows-at-5 c =
-    simp length-set (omega (arith, c.requires))
-
-pub bounds-rows-at-6 : goal.bounds-rows-at-6
-bounds-rows-at-6 c =
-    simp length-set (omega (arith, c.requires))
 
 pub returns : goal.returns
 returns c =
-    let a = c.args in six_stored a.rows.now (6 * a.t) a.label a.first a.second a.start a.inputs a.outputs
+    let a = c.args in
+    let row = c.copy_from_slice.ensures.after in
+    part_set a.rows.now c.copy_from_slice.new.self (6 * a.k) (6 * a.k + 6 - 6 * a.k) (ap length row ∙ omega arith) (omega arith) ∙ ap (sets a.rows.now (6 * a.k)) row

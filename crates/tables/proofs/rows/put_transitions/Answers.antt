@@ -1,45 +1,29 @@
 -- `put_transitions` meets its contract. The loop's invariant: what is left to be put leaves what all transitions leave.
--- The measure is how many are left. Assumes nothing.
-use native.Mathlib.Omega.{arith}
-use mathlib.Core.Path.{refl, ◌∙◌}
+-- Assumes nothing.
+use borrow.Author.Rules.{rules}
+use lib.ListN.{length}
+use Rattle.transitions.specs.inner.Numbers.{list_numbers}
+use Rattle.lists.specs.inner.Numbers.{node_table}
+use Rattle.spread.specs.inner.Numbers.{told_table}
 use Rattle.tables.proofs.Puts.{none_put, room, one_put, all_rows, all_arcs}
 use Rattle.tables.proofs.rows.put_transitions.Goals as goal
 
-pub loop-t-init : goal.loop-t-init
-loop-t-init c =
-    let a = c.args in (none_put a.lists.now a.index.now a.list.now a.many a.rows.now a.arcs.now, refl)
+pub loop-k-init : goal.loop-k-init
+loop-k-init c =
+    let a = c.args in none_put (node_table a.lists.now) (told_table a.index.now) (list_numbers a.list.now) (length a.list.now) a.rows.now a.arcs.now
 
 pub put_transition-at-requires : goal.put_transition-at-requires
 put_transition-at-requires c =
-    room c.loop-t.invariant.0 c.requires (omega arith)
+    room c.loop-k.invariant c.requires c.loop-k-test.true
 
-pub overflow_add-t : goal.overflow_add-t
-overflow_add-t c =
-    omega arith
+pub loop-k-preserved : goal.loop-k-preserved
+loop-k-preserved c =
+    one_put c.loop-k.invariant c.loop-k-test.true c.put_transition-at.ensures.ends c.put_transition-at.ensures.puts (search rules) (search rules)
 
-pub loop-t-smaller : goal.loop-t-smaller
-loop-t-smaller c =
-    omega arith
+pub returns-clause-rows : goal.returns-clause-rows
+returns-clause-rows c =
+    all_rows c.loop-k.invariant c.loop-k-test.false
 
-pub loop-t-preserved : goal.loop-t-preserved
-loop-t-preserved c =
-    (one_put c.loop-t.invariant.0 (omega arith) c.put_transition-at.ensures.ends c.put_transition-at.ensures.puts c.rows-1.given c.arcs-1.given, c.spare-1.given ∙ c.loop-t.invariant.1)
-
-pub shape_of-rows : goal.shape_of-rows
-shape_of-rows c =
-    c.loop-t.invariant.0.rows_long
-
-pub shape_of-arcs : goal.shape_of-arcs
-shape_of-arcs c =
-    c.loop-t.invariant.0.arcs_long
-
-pub shape_of-spare : goal.shape_of-spare
-shape_of-spare c =
-    c.loop-t.invariant.1
-
-pub returns : goal.returns
-returns c =
-    record {
-      rows = all_rows c.loop-t.invariant.0 (omega arith);
-      arcs = all_arcs c.loop-t.invariant.0 (omega arith);
-    }
+pub returns-clause-arcs : goal.returns-clause-arcs
+returns-clause-arcs c =
+    all_arcs c.loop-k.invariant c.loop-k-test.false

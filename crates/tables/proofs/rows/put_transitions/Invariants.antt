@@ -1,11 +1,9 @@
-use Prim.Native.Nat.{◌-◌}
-use mathlib.Core.Path.{◌≡◌}
 use lib.ListN.{length}
+use Rattle.transitions.specs.inner.Numbers.{list_numbers}
+use Rattle.lists.specs.inner.Numbers.{node_table}
+use Rattle.spread.specs.inner.Numbers.{told_table}
 use Rattle.tables.proofs.Puts.{Putting}
 use Rattle.tables.proofs.rows.put_transitions.Given as goal
 
-abbrev pub invariant-loop-t : goal.invariant-loop-t
-invariant-loop-t l = Putting l.lists l.index l.list l.many l.t l.at l.initial.rows l.rows l.initial.arcs l.arcs × (length l.spare ≡ length l.initial.spare)
-
-abbrev pub decreases-loop-t : goal.decreases-loop-t
-decreases-loop-t l = l.many - l.t
+abbrev pub invariant-loop-k : goal.invariant-loop-k
+invariant-loop-k l = Putting (node_table l.lists) (told_table l.index) (list_numbers l.list) (length l.list) l.k l.at l.initial.rows l.rows l.initial.arcs l.arcs
