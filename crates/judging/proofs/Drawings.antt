@@ -6,7 +6,7 @@ use mathlib.Core.Path.{◌≡◌, refl, sym, ◌∙◌, ap, ap₂, subst}
 use mathlib.Core.Bool.{Bool, true, false}
 use mathlib.Core.List.{List, [], ◌∷◌, Memᴰ}
 use lib.ListN.{length, get_or, take, drop, length-map, length-take}
-use lib.Seq.{take_at}
+use lib.Seq.{take_at, take-take, take_all}
 use lib.Dec.{leb}
 use borrow.Author.Tests.{leb-true}
 use Rattle.field.specs.Limits.{plan_limit, place_limit, transition_limit, arc_limit}
@@ -136,42 +136,38 @@ asked_12 plan E e =
     subst (Asked12 plan) (good_same F E i) (record { read = p; loops_fine = l; places_few = few_places F a; transitions_few = few_transitions F b })
 
 pub is_ready : (plan : List ℕ) (sizes : Ready) (table table' counts counts' list' : List ℕ) (r : Result Ready Refusal) → says sizes_told r ≡ ready plan
-    → TablesAre r (judged plan) table table' counts counts' list' → r ≡ Ok sizes → IsReady plan sizes.nodes sizes.transitions table' counts' list'
+    → TablesAre r (judged plan) table table' counts counts' list' → r ≡ Ok sizes
+    → IsReady plan sizes.nodes sizes.transitions (take (6 * sizes.nodes) table') counts' (take (3 * sizes.transitions) list')
 unfolding ready_sizes
 is_ready plan sizes table table' counts counts' list' r s w e =
     go (judged plan) refl (sym (ap (says sizes_told) e) ∙ s) (subst (λ q. TablesAre q (judged plan) table table' counts counts' list') e w)
   where
-    abbrev nodes : ℕ
-    nodes = sizes.nodes
-
-    abbrev many : ℕ
-    many = sizes.transitions
-
     go : (a : Answer Expr) → judged plan ≡ a → good (sizes_told sizes) ≡ (a >>= λ E. good (ready_sizes E)) → TablesAre (Ok sizes) a table table' counts counts' list'
-        → IsReady plan nodes many table' counts' list'
+        → IsReady plan sizes.nodes sizes.transitions (take (6 * sizes.nodes) table') counts' (take (3 * sizes.transitions) list')
     go (refused n c) p f w = good_not_refused _ _ n c (sym f) refl
     go (good E) p f w =
         let a = asked_12 plan E p in
         let b = limits_within E (read_within plan E a.read) in
         let low : actions E ≤ 256 = b.few in
-        let ns : nodes ≡ node_count E = ap (λ z. z.nodes) (good_same _ _ f) in
-        let ms : many ≡ length (transitions 0 E) = ap (λ z. z.transitions) (good_same _ _ f) in
-        let front : take (3 * many) list' ≡ flat (transitions 0 E) = ap (λ k. take (3 * k) list') ms ∙ w.2 in
-        let part : Part list' 0 many (transitions 0 E) = record { count = omega arith; stands = stands_take list' (3 * many) (flat (transitions 0 E)) front } in
+        let ns : sizes.nodes ≡ node_count E = ap (λ z. z.nodes) (good_same _ _ f) in
+        let ms : sizes.transitions ≡ length (transitions 0 E) = ap (λ z. z.transitions) (good_same _ _ f) in
+        let front : take (3 * sizes.transitions) list' ≡ flat (transitions 0 E) = ap (λ k. take (3 * k) list') ms ∙ w.2 in
+        let again : take (3 * sizes.transitions) (take (3 * sizes.transitions) list') ≡ flat (transitions 0 E) = take-take (3 * sizes.transitions) (3 * sizes.transitions) list' (omega arith) ∙ front in
+        let part : Part (take (3 * sizes.transitions) list') 0 sizes.transitions (transitions 0 E) = record { count = omega arith; stands = stands_take (take (3 * sizes.transitions) list') (3 * sizes.transitions) (flat (transitions 0 E)) again } in
         record {
           expr = E;
           passed = p;
           of = record {
-            table = record { nodes = ns; rows_of = ap (take (6 * nodes)) w.0 ∙ take_at (node_table E) (drop (6 * node_count E) table) (6 * nodes) (table_length E ∙ ap (λ n. 6 * n) (sym ns)) };
-            counted = ap (take (3 * nodes)) w.1 ∙ counted_in_front E nodes (drop (3 * node_count E) counts) ns;
+            table = record { nodes = ns; rows_of = take-take (6 * sizes.nodes) (6 * sizes.nodes) table' (omega arith) ∙ ap (take (6 * sizes.nodes)) w.0 ∙ take_at (node_table E) (drop (6 * node_count E) table) (6 * sizes.nodes) (table_length E ∙ ap (λ n. 6 * n) (sym ns)) };
+            counted = ap (take (3 * sizes.nodes)) w.1 ∙ counted_in_front E sizes.nodes (drop (3 * node_count E) counts) ns;
             few = a.places_few;
           };
           loops = loops_exclusive E a.loops_fine;
           scopes = named_scopes E b.labelled;
           few_actions = low;
-          listed = ap (listed_from list' 0) ms ∙ listed_back list' (0 + actions E) (omega arith) 0 many (transitions 0 E) (items_in_range 0 E) part;
+          listed = ap (listed_from (take (3 * sizes.transitions) list') 0) ms ∙ listed_back (take (3 * sizes.transitions) list') (0 + actions E) (omega arith) 0 sizes.transitions (transitions 0 E) (items_in_range 0 E) part;
           few = omega (arith, a.transitions_few);
-          room = omega (arith, length-take (3 * many) list', ap length front, flat_length (transitions 0 E));
+          room = omega (arith, ap length front, flat_length (transitions 0 E), ms);
           three_bytes = omega (arith, bytes_of_nodes E, read_length plan E a.read, ns);
           short = omega (arith, read_length plan E a.read, encode_length E, b.short);
         }
@@ -228,8 +224,11 @@ module _ (plan : List ℕ) (nodes many : ℕ) (table counts list : List ℕ) (w 
     fine_says e h c t = ap good (t ∙ counts_same e) ∙ sym (ap (λ a. a >>= λ F. good (counts_of (net_of F))) (accept_by (arcs_few E (omega (arith, arcs_are e)))))
 
     pub fine_drawn : {arcs : ℕ} → arcs ≡ listed_arcs (told_arcs index) (listed_from list 0 many) → arcs ≤ arc_limit → (c : NetCounts) → counts_told c ≡ counted counts many arcs
-        → (F : Expr) → accept plan ≡ good F → Drawn (Ok c) lists index list F
-    fine_drawn e h c t F a =
+        → (whole_list : List ℕ) → list ≡ take (3 * many) whole_list → (F : Expr) → accept plan ≡ good F → Drawn (Ok c) lists index whole_list F
+    fine_drawn e h c t whole_list cut F a =
         let same : E ≡ F = good_same E F (sym (accept_by (arcs_few E (omega (arith, arcs_are e)))) ∙ a) in
         let m : c.transitions ≡ many = ap (λ (c : Counts). c.transitions) t in
-        (subst (λ X. Whole lists index list c.transitions X) same (subst (λ k. Whole lists index list k E) (sym m) whole), omega (arith, w.room, m))
+        let l : 3 * many ≤ length (take (3 * many) whole_list) = subst (λ l. 3 * many ≤ length l) cut w.room in
+        (subst (λ X. Whole lists index (take (3 * c.transitions) whole_list) c.transitions X) same
+        (subst (λ k. Whole lists index (take (3 * k) whole_list) k E) (sym m) (subst (λ l. Whole lists index l many E) cut whole)),
+        omega (arith, l, length-take (3 * many) whole_list, m))

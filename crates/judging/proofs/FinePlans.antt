@@ -5,8 +5,8 @@ use native.Mathlib.Omega.{arith}
 use native.Mathlib.Nat.{zero-add}
 use mathlib.Core.Path.{◌≡◌, refl, sym, ◌∙◌, ap, subst}
 use mathlib.Core.List.{List, [], ◌∷◌, ◌++◌}
-use lib.ListN.{length, drop}
-use lib.Seq.{sets, sets-eq}
+use lib.ListN.{length, take, drop}
+use lib.Seq.{sets, sets-eq, length-take-le}
 use Rattle.field.specs.Answer.{Answer, good, refused, ◌>>=◌}
 use Rattle.field.proofs.Answers.{good_not_refused, good_same}
 use Rattle.algebra.specs.Expr.{Expr}
@@ -47,7 +47,7 @@ accepted_by plan c e = go (accept plan) refl e
     go (refused n d) p f = good_not_refused _ _ n d (sym f) refl
 
 pub is_fine : (plan lists index list : List ℕ) (r : Result NetCounts Refusal) {c : NetCounts} → says counts_told r ≡ net_counts plan
-    → ((E : Expr) → accept plan ≡ good E → Drawn r lists index list E) → r ≡ Ok c → IsFine plan c lists index list
+    → ((E : Expr) → accept plan ≡ good E → Drawn r lists index list E) → r ≡ Ok c → IsFine plan c lists index (take (3 * c.transitions) list)
 unfolding counts_of tables_of
 is_fine plan lists index list r {c} s d e =
     let (E, a, t) = accepted_by plan (counts_told c) (sym (ap (says counts_told) e) ∙ s) in
@@ -63,7 +63,7 @@ is_fine plan lists index list r {c} s d e =
       accepts = a;
       told = t;
       whole = w;
-      list_long = l;
+      list_long = omega (arith, l, length-take-le (3 * c.transitions) list l);
       few_places = omega (arith, size.0, net_places E);
       few_transitions = omega (arith, size.1);
       few_arcs = omega (arith, size.2);

@@ -6,7 +6,7 @@ use mathlib.Core.Path.{◌≡◌, refl, sym, ◌∙◌, ap, ap₂, subst}
 use mathlib.Core.List.{List, ◌++◌}
 use mathlib.Core.Bool.{Bool, true, false}
 use lib.ListN.{length, get_or, take, drop}
-use lib.Seq.{take_at}
+use lib.Seq.{take_at, take-take}
 use lib.Dec.{T, leb}
 use borrow.Author.Tests.{leb-true, leb-false}
 use Rattle.field.specs.Limits.{plan_limit, place_limit, transition_limit}
@@ -156,7 +156,7 @@ bytes_of_nodes (scope a E) = omega (arith, bytes_of_nodes E)
 pub record IsRead (plan : List ℕ) (nodes : ℕ) (table table' : List ℕ) : Type 0 where
   pub expr : Expr
   pub read : read_plan plan ≡ good expr
-  pub holds : Table table' nodes expr
+  pub holds : Table (take (6 * nodes) table') nodes expr
   pub few : actions expr ≤ 256
   pub labelled : T (named expr)
   pub room : nodes ≤ 1366
@@ -169,18 +169,15 @@ pub is_read : (plan : List ℕ) (sizes : read.Sizes) (table table' : List ℕ) (
 unfolding sizes_of node_table
 is_read plan sizes table table' r s w e = go (read_plan plan) refl (sym (ap (says read_told) e) ∙ s) w
   where
-    abbrev nodes : ℕ
-    nodes = sizes.nodes
-
-    go : (a : Answer Expr) → read_plan plan ≡ a → good (read_told sizes) ≡ (a >>= λ E. good (sizes_of E)) → RowsAre a table table' → IsRead plan nodes table table'
+    go : (a : Answer Expr) → read_plan plan ≡ a → good (read_told sizes) ≡ (a >>= λ E. good (sizes_of E)) → RowsAre a table table' → IsRead plan sizes.nodes table table'
     go (refused n c) p f w = good_not_refused _ _ n c (sym f) refl
     go (good E) p f w =
         let b = limits_within E (read_within plan E p) in
-        let d : nodes ≡ node_count E = ap (λ z. z.nodes) (good_same _ _ f) in
+        let d : sizes.nodes ≡ node_count E = ap (λ z. z.nodes) (good_same _ _ f) in
         record {
           expr = E;
           read = p;
-          holds = record { nodes = d; rows_of = ap (take (6 * nodes)) w ∙ take_at (node_table E) (drop (6 * node_count E) table) (6 * nodes) (omega (arith, rows_length 0 0 0 E)) };
+          holds = record { nodes = d; rows_of = take-take (6 * sizes.nodes) (6 * sizes.nodes) table' (omega arith) ∙ ap (take (6 * sizes.nodes)) w ∙ take_at (node_table E) (drop (6 * node_count E) table) (6 * sizes.nodes) (omega (arith, rows_length 0 0 0 E)) };
           few = b.few;
           labelled = b.labelled;
           room = omega (arith, bytes_of_nodes E, encode_length E, b.short);

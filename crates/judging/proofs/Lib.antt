@@ -1,3 +1,4 @@
+pub mod FrontRows
 pub mod Judges
 pub mod Drawings
 pub mod FinePlans
