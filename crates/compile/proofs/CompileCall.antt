@@ -15,7 +15,8 @@ use Rattle.algebra.specs.Net.{Net}
 use Rattle.algebra.specs.Arcs.{net_of}
 use Rattle.net.specs.Tables.{kinds_of, rows_of, arcs_of, tables_of}
 use Rattle.boxes.specs.Compile.{counts_of, accept, Lent, Compiled, compiled, check_lent, compile_net, compile}
-use Rattle.judging.specs.inner.Judging.{counts}
+use Rattle.judging.specs.inner.Judging.{counts_told}
+use Rattle.judging.specs.declared.NetCounts.{NetCounts}
 use Rattle.judging.proofs.FinePlans.{IsFine, in_front, rows_long}
 use Rattle.compile.specs.inner.Leaves.{Leaves}
 
@@ -33,13 +34,13 @@ unfolding compile compile_net
 plan_refused plan n c old e =
     leaves_by plan old (record { answer = refused n c; tables = old }) (ap (λ a. compiled old (a >>= λ E. check_lent (tables_of (net_of E)) old >> good (net_of E))) e)
 
-module _ (plan : List ℕ) (places transitions count entries internals : ℕ) (lists index list : List ℕ) (w : IsFine plan places transitions count entries internals lists index list) where
+module _ (plan : List ℕ) (n : NetCounts) (lists index list : List ℕ) (w : IsFine plan n lists index list) where
   abbrev N : Net
   N = net_of w.expr
 
   module _ (old : Lent) where
     abbrev reach : Bool
-    reach = leb places (length old.kinds) && (leb (6 * transitions) (length old.rows) && leb count (length old.arcs))
+    reach = leb n.places (length old.kinds) && (leb (6 * n.transitions) (length old.rows) && leb n.arcs (length old.arcs))
 
     lent_check : check_lent (tables_of N) old ≡ check reach table_too_short 0
     unfolding check_lent counts_of
@@ -61,39 +62,39 @@ module _ (plan : List ℕ) (places transitions count entries internals : ℕ) (l
         ap (λ a. compiled old (a >>= λ E. check_lent (tables_of (net_of E)) old >> good (net_of E))) w.accepts
         ∙ ap (λ c. compiled old (c >> good N)) (lent_check ∙ ap (λ b. check b table_too_short 0) h)
 
-    pub reaches : reach ≡ true → (places ≤ length old.kinds) × (6 * transitions ≤ length old.rows) × (count ≤ length old.arcs)
+    pub reaches : reach ≡ true → (n.places ≤ length old.kinds) × (6 * n.transitions ≤ length old.rows) × (n.arcs ≤ length old.arcs)
     reaches h =
-        let a = and_parts (leb places (length old.kinds)) _ (true_T _ h) in
-        let b = and_parts (leb (6 * transitions) (length old.rows)) (leb count (length old.arcs)) a.1 in
-        (leb→le places (length old.kinds) a.0, leb→le (6 * transitions) (length old.rows) b.0, leb→le count (length old.arcs) b.1)
+        let a = and_parts (leb n.places (length old.kinds)) _ (true_T _ h) in
+        let b = and_parts (leb (6 * n.transitions) (length old.rows)) (leb n.arcs (length old.arcs)) a.1 in
+        (leb→le n.places (length old.kinds) a.0, leb→le (6 * n.transitions) (length old.rows) b.0, leb→le n.arcs (length old.arcs) b.1)
 
-    exits_are : places - entries - internals ≡ N.exits
+    exits_are : n.places - n.entries - n.internals ≡ N.exits
     exits_are = omega (arith, w.parts)
 
-    kinds_are : replicate entries 1 ++ (replicate internals 2 ++ replicate (places - entries - internals) 3) ≡ kinds_of N
+    kinds_are : replicate n.entries 1 ++ (replicate n.internals 2 ++ replicate (n.places - n.entries - n.internals) 3) ≡ kinds_of N
     unfolding kinds_of counts_of
     kinds_are =
-        let e : entries ≡ N.entries = ap (λ z. z.entries) w.told in
-        let i : internals ≡ N.internals = ap (λ z. z.internals) w.told in
+        let e : n.entries ≡ N.entries = ap (λ z. z.entries) w.told in
+        let i : n.internals ≡ N.internals = ap (λ z. z.internals) w.told in
         λ k. replicate (e k) 1 ++ (replicate (i k) 2 ++ replicate (exits_are k) 3)
 
-    kinds_length : entries + internals + (places - entries - internals) ≡ length (kinds_of N)
+    kinds_length : n.entries + n.internals + (n.places - n.entries - n.internals) ≡ length (kinds_of N)
     kinds_length =
-        let a : List ℕ = replicate entries 1 in
-        let b : List ℕ = replicate internals 2 in
-        let c : List ℕ = replicate (places - entries - internals) 3 in
-        omega (arith, length-append a (b ++ c), length-append b c, length-replicate {A = ℕ} entries 1, length-replicate {A = ℕ} internals 2, length-replicate {A = ℕ} (places - entries - internals) 3, ap length kinds_are)
+        let a : List ℕ = replicate n.entries 1 in
+        let b : List ℕ = replicate n.internals 2 in
+        let c : List ℕ = replicate (n.places - n.entries - n.internals) 3 in
+        omega (arith, length-append a (b ++ c), length-append b c, length-replicate {A = ℕ} n.entries 1, length-replicate {A = ℕ} n.internals 2, length-replicate {A = ℕ} (n.places - n.entries - n.internals) 3, ap length kinds_are)
 
     -- All three written.
-    pub written : reach ≡ true → {kinds rows arcs : List ℕ} → kinds ≡ replicate entries 1 ++ (replicate internals 2 ++ replicate (places - entries - internals) 3) ++ drop (entries + internals + (places - entries - internals)) old.kinds
-        → rows ≡ sets old.rows 0 (rows_of N) → arcs ≡ sets old.arcs 0 (arcs_of N) → Leaves plan old (good (counts places transitions count entries internals)) kinds rows arcs
+    pub written : reach ≡ true → {kinds rows arcs : List ℕ} → kinds ≡ replicate n.entries 1 ++ (replicate n.internals 2 ++ replicate (n.places - n.entries - n.internals) 3) ++ drop (n.entries + n.internals + (n.places - n.entries - n.internals)) old.kinds
+        → rows ≡ sets old.rows 0 (rows_of N) → arcs ≡ sets old.arcs 0 (arcs_of N) → Leaves plan old (good (counts_told n)) kinds rows arcs
     unfolding tables_of
     written h ek er ea =
         let (_, lr, la) = reaches h in
         let e = sym (compile_is h) in
         record {
           says = ap good w.told ∙ ap (λ x. x.answer) e;
-          kinds_are = ek ∙ ap₂ (λ a n. a ++ drop n old.kinds) kinds_are kinds_length ∙ ap (λ x. x.tables.kinds) e;
-          rows_are = er ∙ in_front (rows_of N) old.rows (omega (arith, lr, rows_long plan places transitions count entries internals lists index list w)) ∙ ap (λ x. x.tables.rows) e;
+          kinds_are = ek ∙ ap₂ (λ a k. a ++ drop k old.kinds) kinds_are kinds_length ∙ ap (λ x. x.tables.kinds) e;
+          rows_are = er ∙ in_front (rows_of N) old.rows (omega (arith, lr, rows_long plan n lists index list w)) ∙ ap (λ x. x.tables.rows) e;
           arcs_are = ea ∙ in_front (arcs_of N) old.arcs (omega (arith, la, w.its_arcs)) ∙ ap (λ x. x.tables.arcs) e;
         }

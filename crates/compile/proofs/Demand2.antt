@@ -1,12 +1,16 @@
 -- Demand 2: "The net of a plan is the one the box algebra builds: same places, transitions, labels, arcs, less the joined pairs that do not part at a parallel
 -- field, numbered as the paper says. A compile is refused for the first stated fault, and for nothing else." Said of every result that the call's contract allows.
 use Prim.Native.Nat.{ℕ}
-use mathlib.Core.Path.{◌≡◌, refl, ◌∙◌, ap}
+use mathlib.Core.Path.{◌≡◌, refl, ◌∙◌, ap, subst}
 use mathlib.Core.List.{List, ◌++◌}
 use lib.ListN.{length, drop}
 use contract.Lifetimes.{Lfts}
 use borrow.Fn.Kinds.{Dens}
+use Rattle.std.specs.Prelude as prelude
 use Rattle.field.specs.Answer.{Answer, good, refused, ◌>>=◌, ◌>>◌}
+use Rattle.field.specs.Says.{number_of}
+use Rattle.field.specs.declared.Refusal.{Refusal}
+use Rattle.field.proofs.Answers.{good_not_refused}
 use Rattle.field.proofs.OneResult.{Result, Allowed}
 use Rattle.algebra.specs.Expr.{Expr}
 use Rattle.algebra.specs.Arcs.{net_of}
@@ -16,9 +20,8 @@ use Rattle.net.specs.Tables.{tables_of, kinds_of, rows_of, arcs_of}
 use Rattle.boxes.specs.Counts.{check_size}
 use Rattle.boxes.specs.Compile.{Lent, counts_of, accept, check_lent, compile_net, compile, compiled}
 use Rattle.compile.specs.Says.{compiling_says, three_lent}
-use Rattle.compile.specs.declared.Compiling.{Compiling}
-use Rattle.compile.specs.declared.Compiling.TheVariants.{Refused}
-use Rattle.compile.proofs.Determined.{said_once}
+use Rattle.judging.specs.inner.Judging.{counts_told}
+use Rattle.judging.specs.declared.NetCounts.{NetCounts}
 use Rattle.compile.proofs.compile.Kinds as call
 use Rattle.compile.proofs.compile.Reads as reads
 
@@ -31,30 +34,38 @@ pub data FirstFault (plan kinds rows arcs : List ℕ) (n c : ℕ) : Type 0 where
   by_tables : (E : Expr) → accept plan ≡ good E → check_lent (tables_of (net_of E)) (three_lent kinds rows arcs) ≡ refused n c → FirstFault plan kinds rows arcs n c
 
 -- The net of an accepted plan stands in front of each table, with the counts told; or the first fault is told and every table is as it was.
-pub data Demand2 (plan kinds rows arcs : List ℕ) (r : Compiling) (kinds' rows' arcs' : List ℕ) : Type 0 where
+pub data Demand2 (plan kinds rows arcs : List ℕ) (r : prelude.Result NetCounts Refusal) (kinds' rows' arcs' : List ℕ) : Type 0 where
   built : (E : Expr) → read_plan plan ≡ good E → check_loops E ≡ good tt → check_size E ≡ good tt → check_lent (tables_of (net_of E)) (three_lent kinds rows arcs) ≡ good tt
       → compiling_says r ≡ good (counts_of (net_of E))
       → kinds' ≡ kinds_of (net_of E) ++ drop (length (kinds_of (net_of E))) kinds
       → rows' ≡ rows_of (net_of E) ++ drop (length (rows_of (net_of E))) rows
       → arcs' ≡ arcs_of (net_of E) ++ drop (length (arcs_of (net_of E))) arcs → Demand2 plan kinds rows arcs r kinds' rows' arcs'
-  refuses : (n c : ℕ) → r ≡ Refused n c → FirstFault plan kinds rows arcs n c → kinds' ≡ kinds → rows' ≡ rows → arcs' ≡ arcs → Demand2 plan kinds rows arcs r kinds' rows' arcs'
+  refuses : (e : Refusal) → r ≡ prelude.Err e → FirstFault plan kinds rows arcs (number_of e.fault) e.carried → kinds' ≡ kinds → rows' ≡ rows → arcs' ≡ arcs → Demand2 plan kinds rows arcs r kinds' rows' arcs'
 
 -- What the contract says.
-record Equated (plan kinds rows arcs : List ℕ) (r : Compiling) (kinds' rows' arcs' : List ℕ) : Type 0 where
+record Equated (plan kinds rows arcs : List ℕ) (r : prelude.Result NetCounts Refusal) (kinds' rows' arcs' : List ℕ) : Type 0 where
   answer : compiling_says r ≡ (compile plan (three_lent kinds rows arcs)).answer
   kinds_are : kinds' ≡ (compile plan (three_lent kinds rows arcs)).tables.kinds
   rows_are : rows' ≡ (compile plan (three_lent kinds rows arcs)).tables.rows
   arcs_are : arcs' ≡ (compile plan (three_lent kinds rows arcs)).tables.arcs
 
-module _ (plan kinds rows arcs : List ℕ) (r : Compiling) (kinds' rows' arcs' : List ℕ) (a : Equated plan kinds rows arcs r kinds' rows' arcs') where
+module _ (plan kinds rows arcs : List ℕ) (r : prelude.Result NetCounts Refusal) (kinds' rows' arcs' : List ℕ) (a : Equated plan kinds rows arcs r kinds' rows' arcs') where
   abbrev old : Lent
   old = three_lent kinds rows arcs
+
+  -- the refusal that says so
+  refused_by : {n c : ℕ} (q : prelude.Result NetCounts Refusal) → compiling_says q ≡ refused n c → FirstFault plan kinds rows arcs n c → kinds' ≡ kinds → rows' ≡ rows → arcs' ≡ arcs → Demand2 plan kinds rows arcs q kinds' rows' arcs'
+  refused_by {n} {c} (prelude.Ok x) e f k l m = good_not_refused (good (counts_told x)) (counts_told x) n c refl e
+  refused_by {n} {c} (prelude.Err x) e f k l m =
+      let i : n ≡ number_of x.fault = cc in
+      let j : c ≡ x.carried = cc in
+      refuses x refl (subst (λ n. FirstFault plan kinds rows arcs n x.carried) i (subst (FirstFault plan kinds rows arcs n) j f)) k l m
 
   refused_at : (n c : ℕ) → compile_net plan old ≡ refused n c → FirstFault plan kinds rows arcs n c → Demand2 plan kinds rows arcs r kinds' rows' arcs'
   unfolding compile
   refused_at n c e f =
       let x : compile plan old ≡ compiled old (refused n c) = ap (compiled old) e in
-      refuses n c (said_once r (Refused n c) (a.answer ∙ ap (λ z. z.answer) x)) f (a.kinds_are ∙ ap (λ z. z.tables.kinds) x) (a.rows_are ∙ ap (λ z. z.tables.rows) x) (a.arcs_are ∙ ap (λ z. z.tables.arcs) x)
+      refused_by r (a.answer ∙ ap (λ z. z.answer) x) f (a.kinds_are ∙ ap (λ z. z.tables.kinds) x) (a.rows_are ∙ ap (λ z. z.tables.rows) x) (a.arcs_are ∙ ap (λ z. z.tables.arcs) x)
 
   -- The tests in their order.
   module _ (E : Expr) (read : read_plan plan ≡ good E) where

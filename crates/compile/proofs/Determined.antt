@@ -1,33 +1,46 @@
 -- `compile` asks nothing, and its contract determines its answer and all three tables afterwards.
--- The contract equates all four with the definition, and no two answers of the code say the same.
+-- The contract equates all four with the definition, no two answers of the code say the same, and each answer of the definition is said.
 use Prim.Native.Nat.{ℕ}
 use mathlib.Core.Path.{◌≡◌, refl, sym, ◌∙◌, ap}
+use mathlib.Core.List.{List}
 use contract.Lifetimes.{Lfts}
 use borrow.Fn.Kinds.{Dens}
+use Rattle.std.specs.Prelude.{Result}
 use Rattle.field.specs.Answer.{Answer, good, refused}
+use Rattle.field.specs.declared.Refusal.{Refusal}
+use Rattle.field.proofs.Faults.{said_once as says_once, known_said, IsKnown}
 use Rattle.field.proofs.OneResult.{One, Allowed, Answered}
-use Rattle.field.proofs.Answers.{good_same, good_not_refused}
-use Rattle.boxes.specs.Compile.{Counts, compile}
+use Rattle.algebra.specs.Net.{Net}
+use Rattle.boxes.specs.Compile.{Counts, Lent, compile_net, compiled, compile}
+use Rattle.judging.specs.inner.Judging.{counts_told}
+use Rattle.judging.specs.declared.NetCounts.{NetCounts}
 use Rattle.compile.specs.Says.{compiling_says, three_lent}
-use Rattle.compile.specs.declared.Compiling.{Compiling}
-use Rattle.compile.specs.declared.Compiling.TheVariants.{Refused, Made}
+use Rattle.compile.proofs.Reasons.{net_known}
 use Rattle.compile.proofs.compile.Kinds as kinds
 use Rattle.compile.proofs.compile.Reads as reads
 
-same_made : {p t a e i p' t' a' e' i' : ℕ} → p ≡ p' → t ≡ t' → a ≡ a' → e ≡ e' → i ≡ i' → Made p t a e i ≡ Made p' t' a' e' i'
-same_made f g h j k = λ x. Made (f x) (g x) (h x) (j x) (k x)
+same_counts : (x y : NetCounts) → counts_told x ≡ counts_told y → x ≡ y
+same_counts x y e =
+    let p = ap (λ (z : Counts). z.places) e in
+    let t = ap (λ (z : Counts). z.transitions) e in
+    let a = ap (λ (z : Counts). z.arcs) e in
+    let i = ap (λ (z : Counts). z.entries) e in
+    let j = ap (λ (z : Counts). z.internals) e in
+    λ k. record { places = p k; transitions = t k; arcs = a k; entries = i k; internals = j k }
 
-pub said_once : (r q : Compiling) → compiling_says r ≡ compiling_says q → r ≡ q
-said_once (Refused n c) (Refused m d) e = let x : n ≡ m = cc in let y : c ≡ d = cc in λ k. Refused (x k) (y k)
-said_once (Refused n c) (Made p t a i j) e = good_not_refused (compiling_says (Refused n c)) _ n c e refl
-said_once (Made p t a i j) (Refused n c) e = good_not_refused (compiling_says (Made p t a i j)) _ n c refl e
-said_once (Made p t a i j) (Made p' t' a' i' j') e =
-    let s : ◌≡◌ {A = Counts} _ _ = good_same _ _ e in
-    same_made (ap (λ z. z.places) s) (ap (λ z. z.transitions) s) (ap (λ z. z.arcs) s) (ap (λ z. z.entries) s) (ap (λ z. z.internals) s)
+pub said_once : (r q : Result NetCounts Refusal) → compiling_says r ≡ compiling_says q → r ≡ q
+said_once r q e = says_once counts_told same_counts r q e
 
-said : (a : Answer Counts) → (r : Compiling) × (compiling_says r ≡ a)
-said (good n) = (Made n.places n.transitions n.arcs n.entries n.internals, refl)
-said (refused n k) = (Refused n k, refl)
+told : (c : Counts) → (x : NetCounts) × (counts_told x ≡ c)
+told c = (record { places = c.places; transitions = c.transitions; arcs = c.arcs; entries = c.entries; internals = c.internals }, refl)
+
+answer_known : (old : Lent) (a : Answer Net) → IsKnown a → IsKnown (compiled old a).answer
+answer_known old (good N) k = tt
+answer_known old (refused n c) k = k
+
+said : (plan : List ℕ) (old : Lent) → (r : Result NetCounts Refusal) × (compiling_says r ≡ (compile plan old).answer)
+unfolding compile
+said plan old = known_said counts_told told (compiled old (compile_net plan old)).answer (answer_known old (compile_net plan old) (net_known plan old))
 
 pub compile_answered : Answered 4 kinds.ps kinds.r reads.Asked reads.Post
 compile_answered = record { free = λ κs a. tt; one = one }
@@ -35,7 +48,7 @@ compile_answered = record { free = λ κs a. tt; one = one }
     one : (κs : Lfts 4) (a : Dens κs kinds.ps) → One (Allowed 4 kinds.ps kinds.r reads.Post κs a)
     one κs a =
         let c = compile a.0.now (three_lent a.1.0.now a.1.1.0.now a.1.1.1.0.now) in
-        let r = said c.answer in
+        let r = said a.0.now (three_lent a.1.0.now a.1.1.0.now a.1.1.1.0.now) in
         record {
           some = ((r.0, (tt, (c.tables.kinds, (c.tables.rows, (c.tables.arcs, tt))))), (r.1, (refl, (refl, refl))));
           only = λ x y p q.

@@ -27,7 +27,8 @@ fn compile_in<const N: usize>(
     rows: &mut [u16],
     arcs: &mut [u16],
 ) -> Result<NetCounts, Refusal>
-    requires { length plan.now ≤ plan_limit → length plan.now ≤ 3 * N }
+    requires few { N ≤ 1366 }
+    requires room { length plan.now ≤ plan_limit → length plan.now ≤ 3 * N }
     ensures { Leaves plan.now (three_lent kinds.old rows.old arcs.old) (compiling_says result) kinds.new rows.new arcs.new }
 {
     let mut table = [Row::default(); N];

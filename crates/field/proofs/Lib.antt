@@ -6,3 +6,4 @@ pub mod OneResult
 pub mod KnownNumbers
 pub mod AreBytes
 pub mod NumbersOfRows
+pub mod Faults

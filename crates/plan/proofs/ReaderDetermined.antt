@@ -2,25 +2,21 @@
 -- it says nothing of the rows, which are the library's own work room: the results that it allows are then that refusal with any rows.
 -- True because what an answer says tells the answer: each case of the enum has its own case of what is said, with all its numbers.
 use Prim.Native.Nat.{ℕ, zero, suc, ◌*◌}
-use mathlib.Core.Path.{◌≡◌, refl, sym, ap, ◌∙◌}
+use mathlib.Core.Path.{◌≡◌, refl, sym, ap, subst, ◌∙◌}
 use mathlib.Core.Logic.{◌↔◌}
 use mathlib.Core.List.{List, [], ◌∷◌, ◌++◌, map}
 use native.Mathlib.Omega.{arith}
 use lib.ListN.{drop}
 use lib.Seq.{drop-nil}
-use lib.Dec.{eqb}
-use mathlib.Core.Bool.{cond}
 use contract.Lifetimes.{Lfts}
 use borrow.Fn.Kinds.{Dens}
 use Rattle.std.specs.Prelude.{Ok, Err}
 use Rattle.std.specs.Prelude as std
 use Rattle.field.specs.Answer.{Answer, good, refused, ◌>>=◌}
 use Rattle.field.specs.Says.{says, number_of}
-use Rattle.field.specs.declared.Fault.{Fault}
-use Rattle.field.specs.declared.Fault.TheVariants.{PlanTooLong, OperandDue, TooDeep, FieldCut, UnknownTag, WrongBody, WrongLabel, TooManyActions, BytesAfter, BodyNotExclusive, TooManyPlaces, TooManyTransitions, TooManyArcs, TableTooShort, RecordTooLong, RecordFieldCut, WrongTag, WrongLength, NotRising, NoNet, NoMarking, NoTransition, InputEmpty, InputShared, TwoTokens}
 use Rattle.field.specs.declared.Refusal.{Refusal}
-use Rattle.field.specs.Refusals as paper
-use Rattle.field.proofs.Answers.{good_same, good_not_refused}
+use Rattle.field.proofs.Answers.{good_not_refused}
+use Rattle.field.proofs.Faults.{fault_numbered, said_once, IsKnown}
 use Rattle.field.proofs.OneResult.{One, Result, Allowed}
 use Rattle.algebra.specs.Expr.{Expr, actions}
 use Rattle.plan.specs.Reading.{read_plan}
@@ -29,82 +25,12 @@ use Rattle.plan.specs.inner.Numbers.{table_numbers}
 use Rattle.plan.specs.inner.Says.{sizes_told, RowsAre}
 use Rattle.plan.specs.declared.Sizes as code
 use Rattle.plan.specs.declared.table.Row as table
-use Rattle.plan.proofs.Reasons.{plan_reasoned}
+use Rattle.plan.proofs.Reasons.{plan_known}
 use Rattle.plan.proofs.read_plan_in.Kinds as kinds
 use Rattle.plan.proofs.read_plan_in.Reads as reads
 
--- no two reasons have one number
-abbrev fault_numbered : ℕ → Fault
-fault_numbered n =
-    cond (eqb n paper.plan_too_long) PlanTooLong (
-    cond (eqb n paper.operand_due) OperandDue (
-    cond (eqb n paper.too_deep) TooDeep (
-    cond (eqb n paper.field_cut) FieldCut (
-    cond (eqb n paper.unknown_tag) UnknownTag (
-    cond (eqb n paper.wrong_body) WrongBody (
-    cond (eqb n paper.wrong_label) WrongLabel (
-    cond (eqb n paper.too_many_actions) TooManyActions (
-    cond (eqb n paper.bytes_after) BytesAfter (
-    cond (eqb n paper.body_not_exclusive) BodyNotExclusive (
-    cond (eqb n paper.too_many_places) TooManyPlaces (
-    cond (eqb n paper.too_many_transitions) TooManyTransitions (
-    cond (eqb n paper.too_many_arcs) TooManyArcs (
-    cond (eqb n paper.table_too_short) TableTooShort (
-    cond (eqb n paper.record_too_long) RecordTooLong (
-    cond (eqb n paper.record_field_cut) RecordFieldCut (
-    cond (eqb n paper.wrong_tag) WrongTag (
-    cond (eqb n paper.wrong_length) WrongLength (
-    cond (eqb n paper.not_rising) NotRising (
-    cond (eqb n paper.no_net) NoNet (
-    cond (eqb n paper.no_marking) NoMarking (
-    cond (eqb n paper.no_transition) NoTransition (
-    cond (eqb n paper.input_empty) InputEmpty (
-    cond (eqb n paper.input_shared) InputShared (
-    TwoTokens))))))))))))))))))))))))
-
-numbered_back : (f : Fault) → fault_numbered (number_of f) ≡ f
-numbered_back PlanTooLong = refl
-numbered_back OperandDue = refl
-numbered_back TooDeep = refl
-numbered_back FieldCut = refl
-numbered_back UnknownTag = refl
-numbered_back WrongBody = refl
-numbered_back WrongLabel = refl
-numbered_back TooManyActions = refl
-numbered_back BytesAfter = refl
-numbered_back BodyNotExclusive = refl
-numbered_back TooManyPlaces = refl
-numbered_back TooManyTransitions = refl
-numbered_back TooManyArcs = refl
-numbered_back TableTooShort = refl
-numbered_back RecordTooLong = refl
-numbered_back RecordFieldCut = refl
-numbered_back WrongTag = refl
-numbered_back WrongLength = refl
-numbered_back NotRising = refl
-numbered_back NoNet = refl
-numbered_back NoMarking = refl
-numbered_back NoTransition = refl
-numbered_back InputEmpty = refl
-numbered_back InputShared = refl
-numbered_back TwoTokens = refl
-
-one_fault : (f g : Fault) → number_of f ≡ number_of g → f ≡ g
-one_fault f g e = sym (numbered_back f) ∙ ap fault_numbered e ∙ numbered_back g
-
 read_once : (r q : std.Result code.Sizes Refusal) → says sizes_told r ≡ says sizes_told q → r ≡ q
-read_once (Err x) (Err y) e =
-    let n : number_of x.fault ≡ number_of y.fault = cc in
-    let f = one_fault x.fault y.fault n in
-    let c : x.carried ≡ y.carried = cc in
-    λ i. Err (record { fault = f i; carried = c i })
-read_once (Err x) (Ok s) e = good_not_refused (says sizes_told (Ok s)) (sizes_told s) (number_of x.fault) x.carried refl (sym e)
-read_once (Ok s) (Err x) e = good_not_refused (says sizes_told (Ok s)) (sizes_told s) (number_of x.fault) x.carried refl e
-read_once (Ok s) (Ok t) e =
-    let z : ◌≡◌ {A = Sizes} _ _ = good_same _ _ e in
-    let x = ap (λ (q : Sizes). q.nodes) z in
-    let y = ap (λ (q : Sizes). q.actions) z in
-    λ i. Ok (record { nodes = x i; actions = y i })
+read_once r q e = said_once sizes_told (λ x y e. let n = ap (λ (z : Sizes). z.nodes) e in let m = ap (λ (z : Sizes). z.actions) e in λ i. record { nodes = n i; actions = m i }) r q e
 
 -- the rows that a table's numbers are, and rows that have numbers
 
@@ -172,7 +98,8 @@ module _ (κs : Lfts 2) (a : Dens κs kinds.ps) where
   -- the refusal of a plan, and that each result with it is allowed
   any_rows : (n c : ℕ) → read_plan a.0.now ≡ refused n c → OneRefusal n c
   any_rows n c e =
-      let (fault, f) = plan_reasoned a.0.now n c e in
+      let fault = fault_numbered n in
+      let f : number_of fault ≡ n = subst IsKnown e (plan_known a.0.now) in
       let told : ◌≡◌ {A = Answer Sizes} (refused (number_of fault) c) (refused n c) = ap (λ (m : ℕ). refused m c) f in
       record {
         refusal = record { fault = fault; carried = c };

@@ -1,74 +1,89 @@
 -- `compile_in` meets its contract: each answer, with the tables that it leaves, is a law of `CompileCall` at what was judged.
 -- Assumes nothing.
+use Prim.Native.Nat.{ℕ, ◌*◌}
 use native.Mathlib.Omega.{arith}
-use mathlib.Core.Path.{sym, ◌∙◌}
-use Rattle.compile.specs.Says.{three_lent}
+use mathlib.Core.Path.{◌≡◌, refl, sym, ◌∙◌, subst}
+use mathlib.Core.Bool.{◌&&◌}
+use mathlib.Core.List.{List}
+use lib.ListN.{length}
+use lib.Seq.{length-take-le}
+use lib.Dec.{leb}
+use Rattle.std.proofs.lemmas.Result.{err_from_is_err_and}
+use Rattle.field.specs.Answer.{refused}
+use Rattle.field.specs.Says.{number_of}
+use Rattle.net.specs.Check.{tables_reach}
+use Rattle.net.specs.Lent.{lent}
+use Rattle.tables.specs.inner.Rows.{Whole, Asked}
+use Rattle.judging.proofs.FrontRows.{front_list}
 use Rattle.judging.proofs.FinePlans.{is_fine, not_fine, asked}
+use Rattle.compile.specs.Says.{three_lent}
+use Rattle.compile.specs.inner.Leaves.{Leaves}
 use Rattle.compile.proofs.CompileCall.{plan_refused, too_short, reaches, written}
 use Rattle.compile.proofs.compile_in.Goals as goal
 
-pub tables_reach-requires : goal.tables_reach-requires
-tables_reach-requires c =
+reach_is : (kinds rows arcs : List ℕ) (p t a : ℕ) → tables_reach (lent kinds rows arcs p t a) ≡ (leb p (length kinds) && (leb (6 * t) (length rows) && leb a (length arcs)))
+unfolding tables_reach
+reach_is kinds rows arcs p t a = refl
+
+pub returns-in_err-net : goal.returns-in_err-net
+returns-in_err-net g c =
     let a = c.args in
-    let j = c.judge in
-    let w = is_fine a.plan.now _ _ _ j.result j.ensures.says j.ensures.drawn c.in-Fine.is in
-    w.few_transitions
+    let p = err_from_is_err_and c.from_residual.result c.from_residual.ensures.1 in
+    rw (p.1, p.2) (plan_refused a.plan.now _ _ (three_lent a.kinds.now a.rows.now a.arcs.now) (not_fine a.plan.now c.judge.result c.judge.ensures.says c.in_err-net.was))
+
+pub tables_reach-requires : goal.tables_reach-requires
+tables_reach-requires g c = (is_fine c.args.plan.now _ _ _ c.judge.result c.judge.ensures.says c.judge.ensures.drawn c.in_ok-net.was).few_transitions
 
 pub returns-then-not-tables_reach : goal.returns-then-not-tables_reach
-returns-then-not-tables_reach c =
+returns-then-not-tables_reach g c =
     let a = c.args in
-    let j = c.judge in
-    let w = is_fine a.plan.now _ _ _ j.result j.ensures.says j.ensures.drawn c.in-Fine.is in
-    let r = c.tables_reach in
-    too_short a.plan.now _ _ _ _ _ _ _ _ w (three_lent a.kinds.now a.rows.now a.arcs.now) (sym r.ensures ∙ c.if-not-tables_reach.true)
+    let n = c.in_ok-net.net in
+    let w = is_fine a.plan.now _ _ _ c.judge.result c.judge.ensures.says c.judge.ensures.drawn c.in_ok-net.was in
+    let short = sym (reach_is a.kinds.now a.rows.now a.arcs.now n.places n.transitions n.arcs) ∙ sym c.tables_reach.ensures ∙ c.if-not-tables_reach.true in
+    subst (λ x. Leaves a.plan.now (three_lent a.kinds.now a.rows.now a.arcs.now) x a.kinds.now a.rows.now a.arcs.now)
+    (λ i. refused (number_of (c.at.ensures.0 (~ i))) (c.at.ensures.1 (~ i)))
+    (too_short a.plan.now n _ _ _ w (three_lent a.kinds.now a.rows.now a.arcs.now) short)
 
-pub overflow_sub-places : goal.overflow_sub-places
-overflow_sub-places c =
-    let a = c.args in
-    let j = c.judge in
-    let w = is_fine a.plan.now _ _ _ j.result j.ensures.says j.ensures.drawn c.in-Fine.is in
-    omega (arith, w.parts)
+pub overflow_sub-exits : goal.overflow_sub-exits
+overflow_sub-exits g c = let w = is_fine c.args.plan.now _ _ _ c.judge.result c.judge.ensures.says c.judge.ensures.drawn c.in_ok-net.was in omega (arith, w.parts)
 
-pub overflow_sub-places-in-Fine : goal.overflow_sub-places-in-Fine
-overflow_sub-places-in-Fine c =
-    let a = c.args in
-    let j = c.judge in
-    let w = is_fine a.plan.now _ _ _ j.result j.ensures.says j.ensures.drawn c.in-Fine.is in
-    omega (arith, w.parts)
+pub overflow_sub-exits-2 : goal.overflow_sub-exits-2
+overflow_sub-exits-2 g c = let w = is_fine c.args.plan.now _ _ _ c.judge.result c.judge.ensures.says c.judge.ensures.drawn c.in_ok-net.was in omega (arith, w.parts)
 
 pub write_kinds-requires : goal.write_kinds-requires
-write_kinds-requires c =
+write_kinds-requires g c =
     let a = c.args in
-    let j = c.judge in
-    let w = is_fine a.plan.now _ _ _ j.result j.ensures.says j.ensures.drawn c.in-Fine.is in
-    let r = c.tables_reach in
-    let l = reaches a.plan.now _ _ _ _ _ _ _ _ w (three_lent a.kinds.now a.rows.now a.arcs.now) (sym r.ensures ∙ c.if-not-tables_reach.false) in
+    let n = c.in_ok-net.net in
+    let w = is_fine a.plan.now _ _ _ c.judge.result c.judge.ensures.says c.judge.ensures.drawn c.in_ok-net.was in
+    let fits = sym (reach_is a.kinds.now a.rows.now a.arcs.now n.places n.transitions n.arcs) ∙ sym c.tables_reach.ensures ∙ c.if-not-tables_reach.false in
+    let l = reaches a.plan.now n _ _ _ w (three_lent a.kinds.now a.rows.now a.arcs.now) fits in
     (omega (arith, w.parts, l.0), omega (arith, w.parts, w.few_places))
 
+pub slice_bounds-list-end : goal.slice_bounds-list-end
+slice_bounds-list-end g c =
+    let w = is_fine c.args.plan.now _ _ _ c.judge.result c.judge.ensures.says c.judge.ensures.drawn c.in_ok-net.was in
+    omega (arith, w.few_transitions, c.judge.auto.list)
+
+pub slice_bounds-put_transitions-end-3 : goal.slice_bounds-put_transitions-end-3
+slice_bounds-put_transitions-end-3 g c =
+    let w = is_fine c.args.plan.now _ _ _ c.judge.result c.judge.ensures.says c.judge.ensures.drawn c.in_ok-net.was in
+    sym (length-take-le c.in_ok-net.net.transitions c.judge.new.list (omega (arith, w.few_transitions, c.judge.auto.list)))
+
 pub put_transitions-requires : goal.put_transitions-requires
-put_transitions-requires c =
+put_transitions-requires g c =
     let a = c.args in
-    let j = c.judge in
-    let w = is_fine a.plan.now _ _ _ j.result j.ensures.says j.ensures.drawn c.in-Fine.is in
-    let r = c.tables_reach in
-    let l = reaches a.plan.now _ _ _ _ _ _ _ _ w (three_lent a.kinds.now a.rows.now a.arcs.now) (sym r.ensures ∙ c.if-not-tables_reach.false) in
-    asked a.plan.now _ _ _ _ _ _ _ _ w l.1 l.2
+    let n = c.in_ok-net.net in
+    let w = is_fine a.plan.now _ _ _ c.judge.result c.judge.ensures.says c.judge.ensures.drawn c.in_ok-net.was in
+    let fits = sym (reach_is a.kinds.now a.rows.now a.arcs.now n.places n.transitions n.arcs) ∙ sym c.tables_reach.ensures ∙ c.if-not-tables_reach.false in
+    let l = reaches a.plan.now n _ _ _ w (three_lent a.kinds.now a.rows.now a.arcs.now) fits in
+    front_list n.transitions c.judge.new.list (omega (arith, w.few_transitions, c.judge.auto.list)) (λ list many. Asked _ _ list many a.rows.now a.arcs.now) (asked a.plan.now n _ _ _ w l.1 l.2)
 
-pub returns-in-Refused : goal.returns-in-Refused
-returns-in-Refused c =
+pub returns : goal.returns
+returns g c =
     let a = c.args in
-    let j = c.judge in
-    plan_refused a.plan.now _ _ (three_lent a.kinds.now a.rows.now a.arcs.now) (not_fine a.plan.now j.result j.ensures.says c.in-Refused.is)
-
-pub shape_of-table-else-not-tables_reach : goal.shape_of-table-else-not-tables_reach
-shape_of-table-else-not-tables_reach c =
-    c.table-in-Fine-1.given ∙ c.table-1.given
-
-pub returns-else-not-tables_reach : goal.returns-else-not-tables_reach
-returns-else-not-tables_reach c =
-    let a = c.args in
-    let j = c.judge in
-    let w = is_fine a.plan.now _ _ _ j.result j.ensures.says j.ensures.drawn c.in-Fine.is in
-    let r = c.tables_reach in
+    let n = c.in_ok-net.net in
+    let w = is_fine a.plan.now _ _ _ c.judge.result c.judge.ensures.says c.judge.ensures.drawn c.in_ok-net.was in
+    let fits = sym (reach_is a.kinds.now a.rows.now a.arcs.now n.places n.transitions n.arcs) ∙ sym c.tables_reach.ensures ∙ c.if-not-tables_reach.false in
+    let whole = front_list n.transitions c.judge.new.list (omega (arith, w.few_transitions, c.judge.auto.list)) (λ list many. Whole _ _ list many w.expr) w.whole in
     let t = c.put_transitions.ensures in
-    written a.plan.now _ _ _ _ _ _ _ _ w (three_lent a.kinds.now a.rows.now a.arcs.now) (sym r.ensures ∙ c.if-not-tables_reach.false) c.write_kinds.ensures (t.rows w.expr w.whole) (t.arcs w.expr w.whole)
+    written a.plan.now n _ _ _ w (three_lent a.kinds.now a.rows.now a.arcs.now) fits c.write_kinds.ensures (t.rows w.expr whole) (t.arcs w.expr whole)
