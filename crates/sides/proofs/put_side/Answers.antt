@@ -20,19 +20,19 @@ use Rattle.sides.proofs.put_side.Goals.{then-q-p, else-q-p}
 pub returns-then-part-eq1 : goal.returns-then-part-eq1
 returns-then-part-eq1 c =
     let a = c.args in
-    one_place (node_table a.lists.now) (told_table a.index.now) a.side a.part.now (item_of a.t.first a.t.second) ((its_numbers a.t.first a.t.second).0 ∙ sym c.from-first.ensures) c.first_place-p.ensures c.requires.0 c.if-part-eq1.true
+    one_place (node_table a.draft.lists.now) (told_table a.draft.index.now) a.side a.part.now (item_of a.t.first a.t.second) ((its_numbers a.t.first a.t.second).0 ∙ sym c.from-first.ensures) c.first_place-p.ensures c.requires.0 c.if-part-eq1.true
 
 pub returns-then-second-eq-NO_SECOND : goal.returns-then-second-eq-NO_SECOND
 returns-then-second-eq-NO_SECOND c =
     let a = c.args in
-    as_item (node_table a.lists.now) (told_table a.index.now) a.side a.part.now _
+    as_item (node_table a.draft.lists.now) (told_table a.draft.index.now) a.side a.part.now _
     (item_of_one a.t.first a.t.second (sym c.from-second.ensures ∙ c.if-second-eq-NO_SECOND.true) ∙ ap one (sym c.from-first.ensures)) c.put_one.ensures
 
 pub returns-then-part-eq2 : goal.returns-then-part-eq2
 returns-then-part-eq2 c =
     let a = c.args in
-    let l = node_table a.lists.now in
-    let x = told_table a.index.now in
+    let l = node_table a.draft.lists.now in
+    let x = told_table a.draft.index.now in
     let first = c.from-first in
     let second = c.from-second in
     let e : item_of a.t.first a.t.second ≡ two first.result second.result =
@@ -43,7 +43,7 @@ returns-then-part-eq2 c =
 pub put_both-requires : goal.put_both-requires
 put_both-requires c =
     let a = c.args in
-    let t = told_count (told_table a.index.now) a.side in
+    let t = told_count (told_table a.draft.index.now) a.side in
     let e : item_of a.t.first a.t.second ≡ two c.from-first.result c.from-second.result =
     item_of_two a.t.first a.t.second (λ z. c.if-second-eq-NO_SECOND.false (c.from-second.ensures ∙ z)) ∙ ap₂ two (sym c.from-first.ensures) (sym c.from-second.ensures) in
     let n = c.requires.0 ∙ ap (item_arcs t) e in
@@ -55,8 +55,8 @@ put_both-requires c =
 pub returns : goal.returns
 returns c =
     let a = c.args in
-    let l = node_table a.lists.now in
-    let x = told_table a.index.now in
+    let l = node_table a.draft.lists.now in
+    let x = told_table a.draft.index.now in
     let e : item_of a.t.first a.t.second ≡ two c.from-first.result c.from-second.result =
     item_of_two a.t.first a.t.second (λ z. c.if-second-eq-NO_SECOND.false (c.from-second.ensures ∙ z)) ∙ ap₂ two (sym c.from-first.ensures) (sym c.from-second.ensures) in
     as_item l x a.side a.part.now _ e

@@ -26,12 +26,12 @@ slice_bounds-put_arcs-end c =
     let h : a.k < length a.list.now = omega (arith, c.requires.list_long, list_length a.list.now) in
     let first = sym (first_of a.list.now a.k no_transition h) in
     let second = sym (second_of a.list.now a.k no_transition h) in
-    omega (arith, c.requires.arcs_long, sides_told (told_table a.index.now) (list_numbers a.list.now) a.k first second c.count_item-inputs.ensures.0 c.count_item-outputs.ensures.0)
+    omega (arith, c.requires.arcs_long, sides_told (told_table a.draft.index.now) (list_numbers a.list.now) a.k first second c.count_item-inputs.ensures.0 c.count_item-outputs.ensures.0)
 
 pub put_arcs-requires : goal.put_arcs-requires
 put_arcs-requires c =
     let a = c.args in
-    let x = told_table a.index.now in
+    let x = told_table a.draft.index.now in
     let list = list_numbers a.list.now in
     let ins = c.count_item-inputs in
     let outs = c.count_item-outputs in
@@ -51,7 +51,7 @@ overflow_cast-inputs c =
     let h : a.k < length a.list.now = omega (arith, c.requires.list_long, list_length a.list.now) in
     let first = sym (first_of a.list.now a.k no_transition h) in
     let second = sym (second_of a.list.now a.k no_transition h) in
-    let end = sides_told (told_table a.index.now) (list_numbers a.list.now) a.k first second c.count_item-inputs.ensures.0 c.count_item-outputs.ensures.0 in
+    let end = sides_told (told_table a.draft.index.now) (list_numbers a.list.now) a.k first second c.count_item-inputs.ensures.0 c.count_item-outputs.ensures.0 in
     record { fits = omega (arith, end, c.requires.arcs_few) }
 
 pub overflow_cast-outputs : goal.overflow_cast-outputs
@@ -60,7 +60,7 @@ overflow_cast-outputs c =
     let h : a.k < length a.list.now = omega (arith, c.requires.list_long, list_length a.list.now) in
     let first = sym (first_of a.list.now a.k no_transition h) in
     let second = sym (second_of a.list.now a.k no_transition h) in
-    let end = sides_told (told_table a.index.now) (list_numbers a.list.now) a.k first second c.count_item-inputs.ensures.0 c.count_item-outputs.ensures.0 in
+    let end = sides_told (told_table a.draft.index.now) (list_numbers a.list.now) a.k first second c.count_item-inputs.ensures.0 c.count_item-outputs.ensures.0 in
     record { fits = omega (arith, end, c.requires.arcs_few) }
 
 pub returns-clause-ends : goal.returns-clause-ends
@@ -69,12 +69,12 @@ returns-clause-ends c =
     let h : a.k < length a.list.now = omega (arith, c.requires.list_long, list_length a.list.now) in
     let first = sym (first_of a.list.now a.k no_transition h) in
     let second = sym (second_of a.list.now a.k no_transition h) in
-    omega (arith, sides_told (told_table a.index.now) (list_numbers a.list.now) a.k first second c.count_item-inputs.ensures.0 c.count_item-outputs.ensures.0)
+    omega (arith, sides_told (told_table a.draft.index.now) (list_numbers a.list.now) a.k first second c.count_item-inputs.ensures.0 c.count_item-outputs.ensures.0)
 
 pub returns-clause-puts : goal.returns-clause-puts
 returns-clause-puts c =
     let a = c.args in
-    let x = told_table a.index.now in
+    let x = told_table a.draft.index.now in
     let list = list_numbers a.list.now in
     let ins = c.count_item-inputs in
     let outs = c.count_item-outputs in
@@ -83,6 +83,6 @@ returns-clause-puts c =
     let first = sym (first_of a.list.now a.k no_transition h) in
     let second = sym (second_of a.list.now a.k no_transition h) in
     let end = sides_told x list a.k first second ins.ensures.0 outs.ensures.0 in
-    transition_put (node_table a.lists.now) x list a.k a.at first second ins.ensures.0 outs.ensures.0 refl (omega (arith, c.requires.arcs_long, end))
+    transition_put (node_table a.draft.lists.now) x list a.k a.at first second ins.ensures.0 outs.ensures.0 refl (omega (arith, c.requires.arcs_long, end))
     (c.put_row.ensures ∙ (λ q. sets a.rows.now (6 * a.k) (label q ∷ (first q ∷ (second q ∷ (a.at ∷ (ins.result ∷ (outs.result ∷ []))))))))
     c.put_arcs.ensures
