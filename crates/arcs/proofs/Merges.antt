@@ -1,15 +1,14 @@
 -- Merging two rising lists: the union of the numbers of the places that pass one test or another, and the turns of the loop that writes it.
 -- Both lists are written down while the places are walked once, so the numbers of one below the next of the other come first in the union.
-use Prim.Native.Nat.{ℕ, zero, suc, ◌+◌, ◌-◌, ◌≤◌, ◌<◌}
+use Prim.Native.Nat.{ℕ, suc, ◌+◌, ◌-◌, ◌≤◌, ◌<◌}
 use native.Mathlib.Omega.{arith}
 use native.Mathlib.Numerals.{add-one}
-use native.Mathlib.Nat.{add-suc}
 use mathlib.Core.Path.{◌≡◌, refl, sym, ◌∙◌, ap, ap₂}
 use mathlib.Core.Bool.{Bool, true, false, cond, ◌||◌}
 use mathlib.Core.List.{List, [], ◌∷◌, ◌++◌, append-nil, append_assoc}
 use lib.ListN.{length, get_or, take, drop, set, length-append, length-drop, take-append-drop, drop_of_length-le}
 use lib.Dec.{ltb}
-use lib.Seq.{sets, length-sets, length-take-le, take-suc, drop-cons, drop-drop, take_all, take-set-le, drop-set-add}
+use lib.Seq.{sets, length-sets, length-take-le, take-suc, drop-cons, drop-drop, take_all}
 use borrow.Author.Tests.{lt-ltb, le-ltb}
 use Rattle.algebra.specs.Places.{Place}
 use Rattle.algebra.specs.Arcs.{numbers}
@@ -125,14 +124,6 @@ below_snoc : (b : ℕ) (l : List ℕ) (x : ℕ) → Below b l → x < b → Belo
 below_snoc b [] x h k = (k, tt)
 below_snoc b (a ∷ l) x h k = (h.0, below_snoc b l x h.1 k)
 
-pub run_start : (list : List ℕ) (bound : ℕ) (before : List ℕ) → Run list bound before 0 before
-run_start list bound before = record { there = omega arith; room = omega arith; below = tt; written = refl }
-
--- Where the first is below the bound, one that is not is not the first.
-pub run_some : (list : List ℕ) (bound n : ℕ) → bound ≤ get_or list n 0 → get_or list 0 0 < bound → 0 < n
-run_some list bound zero h l = absurd (omega arith)
-run_some list bound (suc n) h l = omega arith
-
 module _ {list : List ℕ} {bound : ℕ} {before : List ℕ} {n : ℕ} {out : List ℕ} (g : Run list bound before n out) where
   run_long : length (take n list) ≡ n
   run_long = length-take-le n list g.there
@@ -161,9 +152,6 @@ pub record Merging (A B before out : List ℕ) (i j n : ℕ) : Type 0 where
   pub room : n ≤ length out
   pub all : length (union A B) ≡ n + length (union (drop i A) (drop j B))
   pub is : sets before 0 (union A B) ≡ sets out n (union (drop i A) (drop j B))
-
-pub merge_start : (A B before : List ℕ) → Merging A B before before 0 0 0
-merge_start A B before = record { first = omega arith; second = omega arith; long = refl; room = omega arith; all = omega arith; is = refl }
 
 some_into : (a : ℕ) (rest : List ℕ → List ℕ) (bs : List ℕ) → 0 < length (into a rest bs)
 unfolding into
@@ -239,33 +227,17 @@ module _ {A B before out : List ℕ} {i j n : ℕ} (g : Merging A B before out i
       let left : 0 < length (union (drop i A) (drop j B)) = rw (head A i h) (some_union _ _ _) in
       omega (arith, g.all, g.long, g.room)
 
-  -- One list has ended, and the rest of the other is copied.
-  rest_copied : {rest : List ℕ} → union (drop i A) (drop j B) ≡ rest → (r : Option ℕ) {after : List ℕ}
+  -- One list has ended, and so the rest of the other is all that is left.
+  pub left_of_first : length B ≤ j → {rest : List ℕ} → rest ≡ part A i → union (drop i A) (drop j B) ≡ rest
+  left_of_first h e = ap (union (drop i A)) (drop_of_length-le B h) ∙ none_second (drop i A) ∙ sym (e ∙ part_is A i)
+
+  pub left_of_second : length A ≤ i → {rest : List ℕ} → rest ≡ part B j → union (drop i A) (drop j B) ≡ rest
+  left_of_second h e = ap (λ l. union l (drop j B)) (drop_of_length-le A h) ∙ none_first (drop j B) ∙ sym (e ∙ part_is B j)
+
+  -- It is copied.
+  pub rest_copied : {rest : List ℕ} → union (drop i A) (drop j B) ≡ rest → (r : Option ℕ) {after : List ℕ}
       → IfSome r (λ end. (end ≡ n + length rest) × (end ≤ length out) × (after ≡ sets out n rest)) → IfNone r (length out < n + length rest)
       → Merged (length before) r (union A B) before after
   rest_copied {rest} e (Some end) c d =
       record { some = (omega (arith, c, g.long), omega (arith, c, g.all, ap length e), c.2 ∙ sym (g.is ∙ ap (sets out n) e)); none = tt }
   rest_copied {rest} e None c d = record { some = tt; none = omega (arith, d, g.all, g.long, ap length e) }
-
-  pub first_copied : length B ≤ j → (r : Option ℕ) {after : List ℕ}
-      → IfSome r (λ end. (end ≡ n + length (part A i)) × (end ≤ length out) × (after ≡ sets out n (part A i))) → IfNone r (length out < n + length (part A i))
-      → Merged (length before) r (union A B) before after
-  first_copied h = rest_copied (ap (union (drop i A)) (drop_of_length-le B h) ∙ none_second (drop i A) ∙ sym (part_is A i))
-
-  pub second_copied : length A ≤ i → (r : Option ℕ) {after : List ℕ}
-      → IfSome r (λ end. (end ≡ n + length (part B j)) × (end ≤ length out) × (after ≡ sets out n (part B j))) → IfNone r (length out < n + length (part B j))
-      → Merged (length before) r (union A B) before after
-  second_copied h = rest_copied (ap (λ l. union l (drop j B)) (drop_of_length-le A h) ∙ none_first (drop j B) ∙ sym (part_is B j))
-
--- ---- what a caller has of it
--- A run of stores in the part of a list from n on.
-sets_front : (n : ℕ) (out : List ℕ) (k : ℕ) (l : List ℕ) → n ≤ k → take n (sets out k l) ≡ take n out
-sets_front n out k [] h = refl
-sets_front n out k (x ∷ l) h = sets_front n (set out k x) (suc k) l (omega arith) ∙ take-set-le n out k x h
-
-sets_behind : (n : ℕ) (out : List ℕ) (i : ℕ) (l : List ℕ) → drop n (sets out (n + i) l) ≡ sets (drop n out) i l
-sets_behind n out i [] = refl
-sets_behind n out i (x ∷ l) =
-    ap (λ k. drop n (sets (set out (n + i) x) k l)) (sym (add-suc n i))
-    ∙ sets_behind n (set out (n + i) x) (suc i) l
-    ∙ ap (λ m. sets m (suc i) l) (drop-set-add n out i x)

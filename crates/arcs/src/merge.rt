@@ -32,17 +32,15 @@ fn copy_below(list: &[u16], bound: u16, out: &mut [u16]) -> usize
     most
 }
 
-/// Two rising lists made one, in front of `out`. Answers how many numbers that are, if `out` has room for them.
+/// Two rising lists made one, in front of `out`. Answers how many numbers that are, if `out` has room for them all.
 pub fn merge(first: &[u16], second: &[u16], out: &mut [u16]) -> Option<usize>
     ensures { Merged (length out.old) result (union first.now second.now) out.old out.new }
 {
     let mut i = 0;
     let mut j = 0;
     let mut n = 0;
-    while i < first.len() {
-        if second.len() <= j {
-            return copy_rest(&first[i..], out, n);
-        }
+    // A turn takes a run of numbers from either list, so no iterator over the two goes along with it.
+    while i < first.len() && j < second.len() {
         if out.len() <= n {
             return None;
         }
@@ -63,5 +61,10 @@ pub fn merge(first: &[u16], second: &[u16], out: &mut [u16]) -> Option<usize>
             n += 1;
         }
     }
-    copy_rest(&second[j..], out, n)
+    let rest = if i < first.len() {
+        &first[i..]
+    } else {
+        &second[j..]
+    };
+    copy_rest(rest, out, n)
 }

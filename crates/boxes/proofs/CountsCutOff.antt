@@ -25,9 +25,6 @@ use Rattle.algebra.proofs.Lengths.{entries_of, exits_of, internals_of, places_le
 pub cut_within : (limit n : ℕ) → n ≤ limit → cut limit n ≡ n
 cut_within limit n h = omega arith
 
-pub cut_beyond : (limit n : ℕ) → limit < n → limit < cut limit n
-cut_beyond limit n h = omega arith
-
 pub cut_again : (limit n : ℕ) → cut limit (cut limit n) ≡ cut limit n
 cut_again limit n = omega arith
 
