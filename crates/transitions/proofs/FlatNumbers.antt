@@ -6,6 +6,7 @@ use native.Mathlib.Numerals.{add-one, add-two}
 use mathlib.Core.Path.{◌≡◌, refl, sym, ◌∙◌, ap, subst}
 use mathlib.Core.List.{List, [], ◌∷◌, ◌++◌}
 use lib.ListN.{length, get_or, take, drop, set, length-append, length-set, length-take, length-drop}
+use Rattle.std.proofs.lemmas.List.{ext_get_or}
 use lib.Seq.{sets-eq, take_at, get_or-set_other, length-take-le, get_or-take, get_or-drop, take-nil, drop-nil}
 use Rattle.algebra.specs.Item.{first}
 use Rattle.algebra.specs.Transitions.{Labelled}
@@ -110,14 +111,26 @@ list_take (suc n) (x ∷ list) =
     let e : 3 * suc n ≡ suc (suc (suc (3 * n))) = omega arith in
     ap (λ l. x.label ∷ (x.first ∷ (x.second ∷ l))) (list_take n list) ∙ ap (λ i. take i (list_numbers (x ∷ list))) (sym e)
 
--- A part of a list, cut out.
-pub part_cut : (list : List Transition) (start end : ℕ) (ts : List Labelled) → end ≤ length list → Part (list_numbers list) start end ts → Part (list_numbers (take (end - start) (drop start list))) 0 (length (take (end - start) (drop start list))) ts
-part_cut list start end ts h p = record {
-  count = simp (length-take, length-drop) (omega (arith, p.count));
-  stands = λ j l.
-      ap (λ i. get_or (list_numbers (take (end - start) (drop start list))) i 0) (let e : 3 * 0 + j ≡ j = omega arith in e)
-      ∙ ap (λ q. get_or q j 0) (list_take (end - start) (drop start list) ∙ ap (take (3 * (end - start))) (list_drop start list))
-      ∙ get_or-take (3 * (end - start)) (drop (3 * start) (list_numbers list)) j 0 (omega (arith, p.count, flat_length ts))
-      ∙ get_or-drop (3 * start) (list_numbers list) j 0
-      ∙ p.stands j l;
+-- A list is a part of itself.
+pub whole_part : (list : List Transition) (ts : List Labelled) → list_numbers list ≡ flat ts → Part (list_numbers list) 0 (length list) ts
+whole_part list ts e = record {
+  count = omega (arith, list_length list, flat_length ts, ap length e);
+  stands = λ j l. ap (λ i. get_or (list_numbers list) i 0) (let p : 3 * 0 + j ≡ j = omega arith in p) ∙ ap (λ q. get_or q j 0) e;
 }
+
+-- A part of a list, cut out.
+pub part_cut : (list : List Transition) (start end : ℕ) (ts : List Labelled) → end ≤ length list → Part (list_numbers list) start end ts → list_numbers (take (end - start) (drop start list)) ≡ flat ts
+part_cut list start end ts h p = ext_get_or 0 (list_numbers part) (flat ts) long same
+  where
+    part : List Transition
+    part = take (end - start) (drop start list)
+
+    long : length (list_numbers part) ≡ length (flat ts)
+    long = list_length part ∙ ap (λ i. 3 * i) (simp (length-take, length-drop) (omega (arith, p.count))) ∙ sym (flat_length ts)
+
+    same : (j : ℕ) → j < length (list_numbers part) → get_or (list_numbers part) j 0 ≡ get_or (flat ts) j 0
+    same j l =
+        ap (λ q. get_or q j 0) (list_take (end - start) (drop start list) ∙ ap (take (3 * (end - start))) (list_drop start list))
+        ∙ get_or-take (3 * (end - start)) (drop (3 * start) (list_numbers list)) j 0 (omega (arith, long, p.count, flat_length ts))
+        ∙ get_or-drop (3 * start) (list_numbers list) j 0
+        ∙ p.stands j (omega (arith, long))

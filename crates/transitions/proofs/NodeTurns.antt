@@ -18,7 +18,7 @@ use Rattle.plan.specs.inner.Numbers.{first_at}
 use Rattle.transitions.specs.inner.Listing.{Stored, Held, Lists, pairs, Operands, AllNamed, all_actions, all_transitions}
 use Rattle.transitions.proofs.WhereActionsPart.{node_first}
 use Rattle.transitions.proofs.Weights.{pairs_append, transitions_weight}
-use Rattle.transitions.proofs.StillToCome.{Left, nothing_yet, one_stored, some_held, all_held}
+use Rattle.transitions.proofs.StillToCome.{Left, one_stored, some_held, all_held}
 
 some_action : (E : Expr) → 1 ≤ actions E
 unfolding actions
@@ -119,11 +119,6 @@ pub record Fields (rows : List ℕ) (count end : ℕ) (entry : List ℕ) (n few 
 
 abbrev pub Listing : List ℕ → ℕ → ℕ → List ℕ → ℕ → ℕ → List Labelled → ℕ → List ℕ → ℕ → Type 0
 Listing rows count end entry n few all at list so_far = (i : ℕ) × (Es : List Expr) × Fields rows count end entry n few all at list so_far i Es
-
-pub nothing_listed : (rows : List ℕ) (count k end i : ℕ) (Es : List Expr) → Operands rows count k end i Es → AllNamed Es → all_actions Es ≤ 256 → (list : List ℕ) (n : ℕ)
-    → Listing rows count end list n (all_actions Es) (all_transitions i Es) k list n
-nothing_listed rows count k end i Es o named small list n =
-    (i, Es, record { stand = o; named = named; small = small; held = nothing_yet list n (all_transitions i Es); room = omega arith })
 
 module _ (rows : List ℕ) (count end : ℕ) (entry : List ℕ) (n few : ℕ) (all : List Labelled) (at : ℕ) (list : List ℕ) (so_far : ℕ) where
   abbrev Now : ℕ → List ℕ → ℕ → Type 0

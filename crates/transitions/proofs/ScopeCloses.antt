@@ -16,7 +16,7 @@ use Rattle.plan.specs.inner.Nodes.{numbers, nodes}
 use Rattle.plan.specs.inner.Table.{Node}
 use Rattle.plan.proofs.NodeTable.{scope_operand}
 use Rattle.transitions.specs.declared.Transition.{Transition}
-use Rattle.transitions.specs.inner.Numbers.{transition_numbers, list_numbers}
+use Rattle.transitions.specs.inner.Numbers.{flat, transition_numbers, list_numbers}
 use Rattle.transitions.specs.inner.Listing.{Part, Found, Held, Lists, firsts, pairs_of}
 use Rattle.transitions.proofs.FlatNumbers.{list_length, list_take}
 use Rattle.transitions.proofs.JoinedPairs.{joined_pairs}
@@ -56,11 +56,11 @@ node_byte : {rows : List ℕ} {count k i at a : ℕ} {E : Expr} → Node rows co
 unfolding nodes numbers
 node_byte n = n.rows_of 1 (omega arith)
 
-module _ (rows : List ℕ) (k start end : ℕ) (list part : List ℕ) (size : ℕ) {name lefts rights so_far : ℕ} (r : Option ℕ) {left right : List ℕ} (middle exit : List ℕ)
+module _ (rows : List ℕ) (k start end : ℕ) (list part : List ℕ) {name lefts rights so_far : ℕ} (r : Option ℕ) {left right : List ℕ} (middle exit : List ℕ)
     (byte : name ≡ get_or rows (6 * k + 1) 0)
-    (cut : (ts : List Labelled) → Part list start end ts → Part part 0 size ts)
-    (gathers : (ts : List Labelled) → Part part 0 size ts → length (firsts name ts) ≤ 256 → Found lefts left (firsts name ts))
-    (gathers-too : (ts : List Labelled) → Part part 0 size ts → length (firsts (name + 128) ts) ≤ 256 → Found rights right (firsts (name + 128) ts))
+    (cut : (ts : List Labelled) → Part list start end ts → part ≡ flat ts)
+    (gathers : (ts : List Labelled) → part ≡ flat ts → length (firsts name ts) ≤ 256 → Found lefts left (firsts name ts))
+    (gathers-too : (ts : List Labelled) → part ≡ flat ts → length (firsts (name + 128) ts) ≤ 256 → Found rights right (firsts (name + 128) ts))
     (keeps : (ts : List Labelled) → Part list start end ts → Held so_far start (kept name ts) list middle)
     (joins : (count f at : ℕ) (E : Expr) → Node rows count (k + 1) f at E → Lists r so_far 0 (pairs_of (part_at_parallel f E) (take lefts left) (take rights right)) middle exit) where
   closed_by_name : (count i at : ℕ) (E : Expr) → Node rows count k i at (scope name E) → 1 ≤ name → actions E ≤ 256 → Part list start end (transitions i E)

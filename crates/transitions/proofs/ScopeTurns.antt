@@ -16,7 +16,7 @@ use Rattle.plan.proofs.Stands.{stands_kept}
 use Rattle.transitions.specs.inner.Numbers.{flat}
 use Rattle.transitions.specs.inner.Listing.{Part, Stored, Found, Held, firsts}
 use Rattle.transitions.proofs.FlatNumbers.{label_at, first_at, second_at, part_behind, part_over}
-use Rattle.transitions.proofs.StillToCome.{Left, nothing_yet, all_held, one_stored}
+use Rattle.transitions.proofs.StillToCome.{Left, all_held, one_stored}
 
 -- ---- the labelled ones are gathered
 
@@ -38,9 +38,6 @@ pub record Gathering (list : List ℕ) (t end label : ℕ) (found : List ℕ) (c
   pub part : Part list t end left
   pub numbers : take count found ++ firsts label left ≡ all
   pub counted : count + length (firsts label left) ≡ length all
-
-pub none_gathered : (list found : List ℕ) (start end label : ℕ) (ts : List Labelled) → Part list start end ts → Gathering list start end label found 0 (firsts label ts)
-none_gathered list found start end label ts p = record { left = ts; part = p; numbers = refl; counted = omega arith }
 
 module _ (list found : List ℕ) (t end label count : ℕ) (more : t < end) {all : List ℕ} where
   pub one_gathered : {x : ℕ} {exit : List ℕ} → length found ≡ 256 → length all ≤ 256 → get_or list (3 * t) 0 ≡ label → x ≡ get_or list (3 * t + 1) 0 → exit ≡ set found count x
@@ -108,9 +105,6 @@ pub record Keeping (entry : List ℕ) (start : ℕ) (list : List ℕ) (t end nam
   pub left : List Labelled
   pub part : Part list t end left
   pub held : Left entry start list so_far (kept name ts) (kept name left)
-
-pub none_kept : (entry : List ℕ) (start end name : ℕ) (ts : List Labelled) → Part entry start end ts → Keeping entry start entry start end name start ts
-none_kept entry start end name ts p = record { left = ts; part = p; held = nothing_yet entry start (kept name ts) }
 
 -- What the code asks of a label.
 abbrev pub passes : ℕ → ℕ → Bool

@@ -2,7 +2,7 @@
 -- True because a transition that is stored behind those that the list holds was the first of those to come.
 use Prim.Native.Nat.{ℕ, ◌+◌, ◌*◌, ◌≤◌}
 use native.Mathlib.Omega.{arith}
-use mathlib.Core.Path.{◌≡◌, refl, sym, ◌∙◌, ap}
+use mathlib.Core.Path.{◌≡◌, sym, ◌∙◌, ap}
 use mathlib.Core.List.{List, [], ◌∷◌, ◌++◌, append_assoc, append-nil}
 use Rattle.std.specs.Prelude.{Option, Some, None}
 use lib.ListN.{length, take, length-append}
@@ -18,9 +18,6 @@ pub record Left (entry : List ℕ) (n₀ : ℕ) (list : List ℕ) (n : ℕ) (all
   pub count : n₀ + length all ≡ n + length rest
   pub numbers : take (3 * n₀) entry ++ flat all ≡ take (3 * n) list ++ flat rest
   pub long : length list ≡ length entry
-
-pub nothing_yet : (list : List ℕ) (n : ℕ) (all : List Labelled) → Left list n list n all all
-nothing_yet list n all = record { count = refl; numbers = refl; long = refl }
 
 module _ {entry list : List ℕ} {n₀ n : ℕ} {all : List Labelled} where
   pub all_held : Left entry n₀ list n all [] → Held n n₀ all entry list

@@ -33,7 +33,8 @@ pub struct Transition {
     pub second: u16,
 }
 
-// Adds a transition behind the first n of the list: how many it then holds, or none where it would hold more than the most.
+// Adds a transition behind the first n of the list: how many it then holds, or none where it would hold more than the most. The list is
+// room that the caller lends (there is no heap), so how many it holds stands beside it.
 fn add(list: &mut [Transition], n: usize, transition: Transition) -> Option<usize>
     requires { most ≤ length list.old }
     ensures full { IsNone result → most ≤ n }
@@ -48,7 +49,7 @@ fn add(list: &mut [Transition], n: usize, transition: Transition) -> Option<usiz
 
 // The transitions of the operands from node k to node `end`, behind the first n of the list: how many the list then holds, or none where
 // it would hold more than the most. A field's operands stand behind its own node, so the walk just goes on; only a scope, which takes some
-// away, is listed by itself.
+// away, is listed by itself, and the walk then jumps behind it: hence no `for`.
 #[cycle(list_nodes_list_scope)]
 fn list_nodes(
     rows: &[Row],
@@ -66,7 +67,7 @@ fn list_nodes(
     while at < end {
         let row = rows[at];
         let Ok(tag) = row.tag() else {
-            // No plan has such a row.
+            // No plan has such a row. It is passed here, so that the match names every tag and no more.
             at += 1;
             continue;
         };
@@ -113,8 +114,8 @@ fn list_scope(
     scope::close(rows, k, list, n, end)
 }
 
-/// The transitions of the plan with this node table: how many they are. What a scope takes away is listed for a while, so the list has
-/// room for more than a net may have, and behind the transitions it is work room.
+/// Lists the transitions of the plan with this node table: how many they are, or 01's refusal where a net may not have so many. What a
+/// scope takes away is listed for a while, so the list has room for more, and behind the transitions it is work room.
 pub fn list_transitions(rows: &[Row], list: &mut [Transition]) -> Result<usize, Refusal>
     requires { (length rows.now ≤ 1366) × (most ≤ length list.old) }
     ensures fits { Fits result }

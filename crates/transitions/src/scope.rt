@@ -6,7 +6,7 @@ ghost use Rattle.algebra.specs.Scopes.{ScopesNamed};
 ghost use Rattle.algebra.specs.Transitions.{Labelled, part_at_parallel, kept, transitions};
 ghost use Rattle.plan.specs.inner.Table.{Node};
 ghost use Rattle.plan.specs.inner.Numbers.{table_numbers};
-ghost use Rattle.transitions.specs.inner.Numbers.{most, list_numbers};
+ghost use Rattle.transitions.specs.inner.Numbers.{most, flat, list_numbers};
 ghost use Rattle.transitions.specs.inner.Listing.{Part, Found, Held, firsts, Lists, pairs_with, pairs_of};
 
 use super::{Transition, add};
@@ -14,10 +14,11 @@ use crate::parting::{Parting, part_at};
 use field::ACTION_LIMIT;
 use plan::table::{Row, row_at};
 
-// The first actions of the transitions with a label, in their order, and how many they are. They are single actions, so 256 places do.
+// The first actions of the transitions with a label, in their order, and how many they are. They are single actions, so the limit of a plan
+// is room enough.
 fn gather(part: &[Transition], label: usize, found: &mut [u16; ACTION_LIMIT]) -> usize
     ensures fits { result ≤ 256 }
-    ensures finds { (ts : List Labelled) → Part (list_numbers part.now) 0 (length part.now) ts → length (firsts label ts) ≤ 256 → Found result found.new (firsts label ts) }
+    ensures finds { (ts : List Labelled) → list_numbers part.now ≡ flat ts → length (firsts label ts) ≤ 256 → Found result found.new (firsts label ts) }
 {
     let mut count = 0;
     for transition in part {
@@ -29,11 +30,12 @@ fn gather(part: &[Transition], label: usize, found: &mut [u16; ACTION_LIMIT]) ->
     count
 }
 
-// Takes the transitions labelled with a name or its conjugate out of a part of the list, and keeps the rest in order: how many.
+// Takes the transitions labelled with a name or its conjugate out of a part of the list, and keeps the rest in order: how many. It works in
+// place, so the part is read by number.
 fn keep(part: &mut [Transition], name: usize) -> usize
     requires { name ≤ 65535 }
     ensures fits { result ≤ length part.old }
-    ensures keeps { (ts : List Labelled) → Part (list_numbers part.old) 0 (length part.old) ts → Held result 0 (kept name ts) (list_numbers part.old) (list_numbers part.new) }
+    ensures keeps { (ts : List Labelled) → list_numbers part.old ≡ flat ts → Held result 0 (kept name ts) (list_numbers part.old) (list_numbers part.new) }
 {
     let mut so_far = 0;
     for t in 0..part.len() {

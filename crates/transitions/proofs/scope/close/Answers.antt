@@ -1,6 +1,6 @@
 -- `close` meets its contract: the labelled transitions are gathered, the rest is kept, and the pairs are joined.
 -- Assumes nothing.
-use Rattle.std.proofs.Common.{length, take, drop, ◌-◌, arith, ap, ◌∙◌}
+use Rattle.std.proofs.Common.{take, drop, ◌-◌, arith, ap, ◌∙◌}
 use Rattle.std.proofs.lemmas.List.{length-take-le, length-drop}
 use Rattle.plan.specs.inner.Numbers.{table_numbers}
 use Rattle.transitions.specs.inner.Numbers.{list_numbers}
@@ -12,7 +12,7 @@ pub returns-clause-lists : goal.returns-clause-lists
 returns-clause-lists c =
     let a = c.args in
     let part = take (a.end - a.start) (drop a.start a.list.now) in
-    closed (table_numbers a.rows.now) a.k a.start a.end (list_numbers a.list.now) (list_numbers part) (length part) c.join.result _ (list_numbers c.join.new.list)
+    closed (table_numbers a.rows.now) a.k a.start a.end (list_numbers a.list.now) (list_numbers part) c.join.result _ (list_numbers c.join.new.list)
     (c.from-name.ensures ∙ ap (λ r. r.byte) c.row_at.ensures)
     (λ ts p. part_cut a.list.now a.start a.end ts (omega arith) p)
     c.gather-lefts.ensures.finds c.gather-rights.ensures.finds

@@ -1,12 +1,16 @@
 -- `gather` meets its contract. The loop's invariant: what is found and what is to come are the first actions of all with the label.
 -- Assumes nothing.
-use Rattle.std.proofs.Common.{length, arith, sym, ap, ◌∙◌}
+use Rattle.std.proofs.Common.{length, arith, rules, refl, sym, ap, ◌∙◌}
 use lib.ListN.{length-set}
 use Rattle.transitions.specs.inner.Numbers.{list_numbers}
-use Rattle.transitions.proofs.FlatNumbers.{label_of, first_of}
+use Rattle.transitions.proofs.FlatNumbers.{label_of, first_of, whole_part}
 use Rattle.transitions.proofs.ScopeTurns.{room_left, one_gathered, none_more_gathered, all_gathered}
 use Rattle.transitions.proofs.scope.gather.Goals as goal
 use Rattle.transitions.proofs.scope.gather.Goals.{then-from-label+then-count-lt256, else-from-label, else-from-label-via-then-from-label+else-count-lt256, else-from-label-via-else-from-label}
+
+pub loop-transition-init : goal.loop-transition-init
+loop-transition-init c =
+    (search rules, λ ts e few. record { left = ts; part = whole_part c.args.part.now ts e; numbers = refl; counted = omega arith })
 
 pub loop-transition-preserved : goal.loop-transition-preserved
 loop-transition-preserved c =

@@ -1,11 +1,15 @@
 -- `keep` meets its contract. The loop's invariant: what is held and what is to come are all that the scope keeps.
 -- Assumes nothing.
-use Rattle.std.proofs.Common.{◌<◌, length, arith, sym, ◌∙◌}
+use Rattle.std.proofs.Common.{◌<◌, length, arith, rules, refl, sym, ◌∙◌}
 use Rattle.transitions.specs.inner.Numbers.{list_numbers}
-use Rattle.transitions.proofs.FlatNumbers.{label_of, first_of, second_of, transition_stored}
+use Rattle.transitions.proofs.FlatNumbers.{label_of, first_of, second_of, whole_part, transition_stored}
 use Rattle.transitions.proofs.ScopeTurns.{passes_neither, stops_name, stops_conjugate, one_kept, none_more_kept, all_kept}
 use Rattle.transitions.proofs.scope.keep.Goals as goal
 use Rattle.transitions.proofs.scope.keep.Goals.{then-label-name+then-label-name-2, else-label-name, else-label-name-via-then-label-name+else-label-name-2, else-label-name-via-else-label-name}
+
+pub loop-t-init : goal.loop-t-init
+loop-t-init c =
+    (search rules, λ ts e. record { left = ts; part = whole_part c.args.part.now ts e; held = record { count = refl; numbers = refl; long = refl } })
 
 pub loop-t-preserved : goal.loop-t-preserved
 loop-t-preserved c =
