@@ -6,6 +6,7 @@ ghost use Rattle.lists.specs.inner.Lists.{list_row, place_of, Chain, Means};
 ghost use Rattle.lists.specs.inner.Numbers.{node_table};
 ghost use Rattle.lists.specs.inner.Placing.{Small, Stepped, CopiedOn};
 
+// `List` is any list in the clauses.
 use crate::{List as OneList, Node, short};
 use net::Side;
 

@@ -1,20 +1,12 @@
 -- Runs of stores, one behind another: two runs are one run of both lists, and a run from the front leaves what lies behind it.
 -- True by recursion on the first run.
-use Prim.Native.Nat.{ℕ, zero, suc, ◌+◌, ◌-◌, ◌≤◌, ◌<◌}
+use Prim.Native.Nat.{ℕ, suc, ◌+◌, ◌≤◌}
 use native.Mathlib.Omega.{arith}
-use native.Mathlib.Numerals.{add-one, unary_clauses}
 use native.Mathlib.Nat.{zero-add}
-use mathlib.Core.Path.{◌≡◌, refl, sym, ◌∙◌, ap, ap₂}
+use mathlib.Core.Path.{◌≡◌, ◌∙◌, ap}
 use mathlib.Core.List.{List, [], ◌∷◌, ◌++◌, append-nil}
 use lib.ListN.{length, drop, set, replicate, length-append, length-replicate, drop_of_length-le}
 use lib.Seq.{sets, sets-eq}
-
--- A run's first store.
-pub one_stored : (l : List ℕ) (at left x : ℕ) → 0 < left → sets l at (replicate left x) ≡ sets (set l at x) (at + 1) (replicate (left - 1) x)
-one_stored l at zero x h = absurd (omega arith)
-one_stored l at (suc left) x h =
-    let e : left ≡ suc left - 1 = omega arith in
-    ap₂ (λ k j. sets (set l at x) k (replicate j x)) (sym (add-one at)) e
 
 pub sets_both : (a b l : List ℕ) (i n : ℕ) → n ≡ i + length a → sets (sets l i a) n b ≡ sets l i (a ++ b)
 sets_both [] b l i n e = ap (λ k. sets l k b) (omega arith)
@@ -23,11 +15,6 @@ sets_both (x ∷ a) b l i n e = sets_both a b (set l i x) (suc i) n (omega arith
 -- A run as long as what it goes over leaves nothing else.
 pub all_set : (l part : List ℕ) → length l ≡ length part → sets part 0 l ≡ l
 all_set l part e = sets-eq l part 0 (omega arith) ∙ ap (λ r. l ++ r) (drop_of_length-le part {i = 0 + length l} (omega arith)) ∙ append-nil l
-
--- Six stores are one run.
-pub six_stored : (l : List ℕ) (at a b c d e f : ℕ)
-    → set (set (set (set (set (set l at a) (at + 1) b) (at + 2) c) (at + 3) d) (at + 4) e) (at + 5) f ≡ sets l at (a ∷ (b ∷ (c ∷ (d ∷ (e ∷ (f ∷ []))))))
-six_stored l at a b c d e f = simp unary_clauses refl
 
 -- Three runs from the front, each behind the one before.
 pub three_runs : (l : List ℕ) (n m k x y z : ℕ) → n + m + k ≤ length l

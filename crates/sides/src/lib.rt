@@ -19,6 +19,13 @@ use net::Side;
 use spread::Told;
 use transitions::Transition;
 
+/// The work tables of a plan: the lists of every node, and what is told of every action.
+#[derive(Clone, Copy)]
+pub struct Draft<'a> {
+    pub lists: &'a [Node],
+    pub index: &'a [Told],
+}
+
 // What is told of action i; past the end zeros.
 fn told_at(index: &[Told], i: usize) -> Told
     ensures { result ≡ told_row (told_table index.now) i }
@@ -50,24 +57,24 @@ pub fn count_item(index: &[Told], side: Side, t: Transition) -> usize
 }
 
 // The first of an action's places on one side.
-fn first_place(lists: &[Node], index: &[Told], side: Side, i: usize) -> u16
-    ensures { result ≡ get_or (node_table lists.now) (place_of side (get_or (told_table index.now) (3 * i) 0)) 0 }
+fn first_place(draft: Draft<'_>, side: Side, i: usize) -> u16
+    ensures { result ≡ get_or (node_table draft.entry.lists.now) (place_of side (get_or (told_table draft.entry.index.now) (3 * i) 0)) 0 }
 {
-    let node = usize::from(told_at(index, i).node);
-    if node < lists.len() {
-        lists[node].on(side).base
+    let node = usize::from(told_at(draft.index, i).node);
+    if node < draft.lists.len() {
+        draft.lists[node].on(side).base
     } else {
         0
     }
 }
 
 // The places of an action on one side, into a part of the arcs that is as long as they are many.
-fn put_one(lists: &[Node], index: &[Told], i: usize, side: Side, part: &mut [u16])
+fn put_one(draft: Draft<'_>, i: usize, side: Side, part: &mut [u16])
     requires { length part.old ≤ 65536 }
-    ensures { Placed (node_table lists.now) (told_table index.now) side (one i) part.old part.new }
+    ensures { Placed (node_table draft.entry.lists.now) (told_table draft.entry.index.now) side (one i) part.old part.new }
 {
-    let node = told_at(index, i).node;
-    put_places(lists, usize::from(node), side, part);
+    let node = told_at(draft.index, i).node;
+    put_places(draft.lists, usize::from(node), side, part);
 }
 
 // Whether the number before place m is below the one there.
@@ -78,26 +85,17 @@ fn is_in_order(part: &[u16], m: usize) -> bool
 }
 
 // The places of two actions, one list behind the other, the second's from place m on.
-fn put_pair(
-    lists: &[Node],
-    index: &[Told],
-    i: usize,
-    j: usize,
-    side: Side,
-    m: usize,
-    part: &mut [u16],
-)
-    requires { (m ≡ told_count (told_table index.now) side i) × (length part.old ≡ m + told_count (told_table index.now) side j) × (length part.old ≤ 2048) }
-    ensures { PlacedPair (node_table lists.now) (told_table index.now) side i j part.new }
+fn put_pair(draft: Draft<'_>, i: usize, j: usize, side: Side, m: usize, part: &mut [u16])
+    requires { (m ≡ told_count (told_table draft.index.now) side i) × (length part.old ≡ m + told_count (told_table draft.index.now) side j) × (length part.old ≤ 2048) }
+    ensures { PlacedPair (node_table draft.entry.lists.now) (told_table draft.entry.index.now) side i j part.new }
 {
-    put_one(lists, index, i, side, &mut part[..m]);
-    put_one(lists, index, j, side, &mut part[m..]);
+    put_one(draft, i, side, &mut part[..m]);
+    put_one(draft, j, side, &mut part[m..]);
 }
 
 // The same in rising order: the two lists are put into room that is as long as both, and merged from there.
 fn put_merged(
-    lists: &[Node],
-    index: &[Told],
+    draft: Draft<'_>,
     i: usize,
     j: usize,
     side: Side,
@@ -105,10 +103,10 @@ fn put_merged(
     room: &mut [u16],
     part: &mut [u16],
 )
-    requires { (m ≡ told_count (told_table index.now) side i) × (length room.old ≡ m + told_count (told_table index.now) side j) × (length room.old ≤ 2048) }
-    ensures { Placed (node_table lists.now) (told_table index.now) side (two i j) part.old part.new }
+    requires { (m ≡ told_count (told_table draft.index.now) side i) × (length room.old ≡ m + told_count (told_table draft.index.now) side j) × (length room.old ≤ 2048) }
+    ensures { Placed (node_table draft.entry.lists.now) (told_table draft.entry.index.now) side (two i j) part.old part.new }
 {
-    put_pair(lists, index, i, j, side, m, room);
+    put_pair(draft, i, j, side, m, room);
     // Lent whole first: the borrow checker takes two parts of one loan, and not two loans of a part each.
     let both = &room[..];
     merge(&both[..m], &both[m..], part);
@@ -116,30 +114,22 @@ fn put_merged(
 
 // The places of two actions, those of the first before those of the second. Where the second's are all above them they rise as they
 // stand. Else they are merged, by way of work room: the lent one where it is long enough, or an array of its own.
-fn put_both(
-    lists: &[Node],
-    index: &[Told],
-    i: usize,
-    j: usize,
-    side: Side,
-    part: &mut [u16],
-    spare: &mut [u16],
-)
-    requires { (length part.old ≡ told_count (told_table index.now) side i + told_count (told_table index.now) side j) × (length part.old ≤ 2048) }
-    ensures { Placed (node_table lists.now) (told_table index.now) side (two i j) part.old part.new }
+fn put_both(draft: Draft<'_>, i: usize, j: usize, side: Side, part: &mut [u16], spare: &mut [u16])
+    requires { (length part.old ≡ told_count (told_table draft.index.now) side i + told_count (told_table draft.index.now) side j) × (length part.old ≤ 2048) }
+    ensures { Placed (node_table draft.entry.lists.now) (told_table draft.entry.index.now) side (two i j) part.old part.new }
 {
-    let m = count_of(index, side, i);
-    put_pair(lists, index, i, j, side, m, part);
+    let m = count_of(draft.index, side, i);
+    put_pair(draft, i, j, side, m, part);
     if is_in_order(part, m) {
         return;
     }
     let n = part.len();
     if n <= spare.len() {
-        put_merged(lists, index, i, j, side, m, &mut spare[..n], part);
+        put_merged(draft, i, j, side, m, &mut spare[..n], part);
         return;
     }
     let mut own = [0u16; field::PLACE_LIMIT];
-    put_merged(lists, index, i, j, side, m, &mut own[..n], part);
+    put_merged(draft, i, j, side, m, &mut own[..n], part);
 }
 
 // Two places, the lower first.
@@ -154,29 +144,22 @@ fn put_two(part: &mut [u16], p: u16, q: u16)
 // The places of a transition on one side: "both input sets and both output sets". Every action has a place, and its list begins with its first
 // one. So a single place is the first one of one action, and two places of two actions are the first one of each: no list is gone through.
 // Else, of two actions the one whose first place is lower goes first; there is one call for both orders, so that its code is put in place.
-fn put_side(
-    lists: &[Node],
-    index: &[Told],
-    t: Transition,
-    side: Side,
-    part: &mut [u16],
-    spare: &mut [u16],
-)
-    requires { (length part.old ≡ item_arcs (told_count (told_table index.now) side) (item_of t.first t.second)) × (length part.old ≤ 2048) }
-    ensures { Placed (node_table lists.now) (told_table index.now) side (item_of t.first t.second) part.old part.new }
+fn put_side(draft: Draft<'_>, t: Transition, side: Side, part: &mut [u16], spare: &mut [u16])
+    requires { (length part.old ≡ item_arcs (told_count (told_table draft.index.now) side) (item_of t.first t.second)) × (length part.old ≤ 2048) }
+    ensures { Placed (node_table draft.entry.lists.now) (told_table draft.entry.index.now) side (item_of t.first t.second) part.old part.new }
 {
     let first = usize::from(t.first);
     let second = usize::from(t.second);
-    let p = first_place(lists, index, side, first);
+    let p = first_place(draft, side, first);
     if part.len() == 1 {
         part[0] = p;
         return;
     }
     if second == field::NO_SECOND {
-        put_one(lists, index, first, side, part);
+        put_one(draft, first, side, part);
         return;
     }
-    let q = first_place(lists, index, side, second);
+    let q = first_place(draft, side, second);
     if part.len() == 2 {
         put_two(part, p, q);
         return;
@@ -186,21 +169,14 @@ fn put_side(
     } else {
         (first, second)
     };
-    put_both(lists, index, low, high, side, part, spare);
+    put_both(draft, low, high, side, part, spare);
 }
 
 /// The inputs of a transition and behind them its outputs, into its part of the arcs.
-pub fn put_arcs(
-    lists: &[Node],
-    index: &[Told],
-    t: Transition,
-    inputs: usize,
-    part: &mut [u16],
-    spare: &mut [u16],
-)
-    requires { (inputs ≡ item_arcs (told_count (told_table index.now) Inputs) (item_of t.first t.second)) × (length part.old ≡ inputs + item_arcs (told_count (told_table index.now) Outputs) (item_of t.first t.second)) × (inputs ≤ 2048) × (length part.old ≤ inputs + 2048) }
-    ensures { PlacedBoth (node_table lists.now) (told_table index.now) (item_of t.first t.second) part.new }
+pub fn put_arcs(draft: Draft<'_>, t: Transition, inputs: usize, part: &mut [u16], spare: &mut [u16])
+    requires { (inputs ≡ item_arcs (told_count (told_table draft.index.now) Inputs) (item_of t.first t.second)) × (length part.old ≡ inputs + item_arcs (told_count (told_table draft.index.now) Outputs) (item_of t.first t.second)) × (inputs ≤ 2048) × (length part.old ≤ inputs + 2048) }
+    ensures { PlacedBoth (node_table draft.entry.lists.now) (told_table draft.entry.index.now) (item_of t.first t.second) part.new }
 {
-    put_side(lists, index, t, Side::Inputs, &mut part[..inputs], spare);
-    put_side(lists, index, t, Side::Outputs, &mut part[inputs..], spare);
+    put_side(draft, t, Side::Inputs, &mut part[..inputs], spare);
+    put_side(draft, t, Side::Outputs, &mut part[inputs..], spare);
 }

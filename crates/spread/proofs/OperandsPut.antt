@@ -2,8 +2,7 @@
 -- True because lists whose numbers are the same in 16 bits put equal rows.
 use Prim.Native.Nat.{ℕ, ◌+◌, ◌*◌, ◌%◌}
 use native.Mathlib.Omega.{arith}
-use native.Mathlib.Nat.{mod-eq_of_lt, mod-add-mod}
-use mathlib.Core.Path.{◌≡◌, ◌∙◌, ap, sym}
+use mathlib.Core.Path.{◌≡◌, ◌∙◌, ap}
 use mathlib.Core.Bool.{cond}
 use mathlib.Core.List.{List, [], ◌∷◌}
 use lib.ListN.{length, get_or}

@@ -129,6 +129,12 @@ fn put_operands(
     requires { k < length lists.old }
     ensures { node_table lists.new ≡ operands_put (table_numbers rows.now) (counts_numbers counts.now) k tag (node_table lists.old) }
 {
+    if let Ok(Tag::Scope) = tag {
+        // Its places are those of its operand.
+        let node = lists[k];
+        put_node(lists, k + 1, node.entries, node.exits, node.internal);
+        return;
+    }
     let second = after(rows, k + 1);
     let e = counts_at(counts, k + 1);
     let f = counts_at(counts, second);
@@ -139,11 +145,6 @@ fn put_operands(
             let third = after(rows, second);
             let g = counts_at(counts, third);
             put_loop(lists, k, second, third, e, f, g);
-        }
-        Ok(Tag::Scope) => {
-            // Its places are those of its operand.
-            let node = lists[k];
-            put_node(lists, k + 1, node.entries, node.exits, node.internal);
         }
         // No row of a plan has another tag.
         _ => put_parallel(lists, k, second, e, f),

@@ -21,7 +21,10 @@ use Rattle.net.specs.declared.Side.TheVariants.{Inputs, Outputs}
 use Rattle.arcs.proofs.Transitions.{numbers_few}
 use Rattle.sides.specs.inner.Sides.{told_count, told_arcs, item_places, Below, Drafted}
 use Rattle.sides.proofs.Told.{told_one}
-use Rattle.tables.specs.inner.Rows.{item_at, listed_at, listed_from, Whole}
+use Rattle.transitions.specs.declared.Transition as declared
+use Rattle.transitions.specs.inner.Numbers.{list_numbers}
+use Rattle.transitions.proofs.FlatNumbers.{list_length, label_of, first_of, second_of}
+use Rattle.tables.specs.inner.Rows.{no_transition, item_at, listed_at, listed_from, Whole}
 
 -- The arcs of an item are those of its two sides.
 pub both_sides : (index : List ℕ) (item : Item) → item_arcs (told_arcs index) item ≡ item_arcs (told_count index Inputs) item + item_arcs (told_count index Outputs) item
@@ -35,6 +38,30 @@ module _ (index list : List ℕ) (t : ℕ) {i j : ℕ} (a : i ≡ get_or list (3
 
   pub sides_told : {n m : ℕ} → n ≡ item_arcs (told_count index Inputs) (item_of i j) → m ≡ item_arcs (told_count index Outputs) (item_of i j) → n + m ≡ item_arcs (told_arcs index) (item_at list t)
   sides_told e f = ap₂ ◌+◌ (side_told Inputs e) (side_told Outputs f) ∙ sym (both_sides index (item_at list t))
+
+-- Transition k of a list, by the list's numbers.
+module _ (index : List ℕ) (list : List declared.Transition) (k : ℕ) (room : 3 * (k + 1) ≤ length (list_numbers list)) where
+  abbrev it : declared.Transition
+  it = get_or list k no_transition
+
+  pub inside : k < length list
+  inside = omega (arith, list_length list)
+
+  pub label_is : it.label ≡ get_or (list_numbers list) (3 * k) 0
+  label_is = sym (label_of list k no_transition inside)
+
+  pub first_is : it.first ≡ get_or (list_numbers list) (3 * k + 1) 0
+  first_is = sym (first_of list k no_transition inside)
+
+  pub second_is : it.second ≡ get_or (list_numbers list) (3 * k + 2) 0
+  second_is = sym (second_of list k no_transition inside)
+
+  pub side_is : (side : Side) {n : ℕ} → n ≡ item_arcs (told_count index side) (item_of it.first it.second) → n ≡ item_arcs (told_count index side) (item_at (list_numbers list) k)
+  side_is = side_told index (list_numbers list) k first_is second_is
+
+  pub arcs_are : {n m : ℕ} → n ≡ item_arcs (told_count index Inputs) (item_of it.first it.second) → m ≡ item_arcs (told_count index Outputs) (item_of it.first it.second)
+      → n + m ≡ item_arcs (told_arcs index) (item_at (list_numbers list) k)
+  arcs_are = sides_told index (list_numbers list) k first_is second_is
 
 -- ---- the list, from one transition to the next
 pub listed_next : (list : List ℕ) (t many : ℕ) → t < many → listed_from list t (many - t) ≡ listed_at list t ∷ listed_from list (t + 1) (many - (t + 1))

@@ -15,9 +15,8 @@ ghost use Rattle.spread.specs.inner.Numbers.{told_table};
 ghost use Rattle.sides.specs.inner.Sides.{told_arcs, Drafted};
 ghost use Rattle.tables.specs.inner.Rows.{item_at, listed_at, listed_from, Whole, Asked, Room, Put};
 
-use lists::Node;
 use net::Side;
-use sides::{count_item, put_arcs};
+use sides::{Draft, count_item, put_arcs};
 use spread::Told;
 use transitions::Transition;
 
@@ -51,8 +50,7 @@ fn put_row(rows: &mut [u16], k: usize, t: Transition, start: u16, inputs: u16, o
 
 // Transition k of the list: its arcs, and its row. Answers where its arcs end.
 fn put_transition(
-    lists: &[Node],
-    index: &[Told],
+    draft: Draft<'_>,
     list: &[Transition],
     k: usize,
     rows: &mut [u16],
@@ -60,34 +58,33 @@ fn put_transition(
     at: usize,
     spare: &mut [u16],
 ) -> usize
-    requires { Room (told_table index.now) (list_numbers list.now) k at rows.old arcs.old }
-    ensures ends { result ≡ at + item_arcs (told_arcs (told_table index.now)) (item_at (list_numbers list.now) k) }
-    ensures puts { (E : Expr) → Drafted (node_table lists.now) (told_table index.now) E → Memᴰ (listed_at (list_numbers list.now) k) (transitions 0 E) → Put k at (transition_of (places 0 E) (listed_at (list_numbers list.now) k)) rows.old rows.new arcs.old arcs.new }
+    requires { Room (told_table draft.index.now) (list_numbers list.now) k at rows.old arcs.old }
+    ensures ends { result ≡ at + item_arcs (told_arcs (told_table draft.entry.index.now)) (item_at (list_numbers list.now) k) }
+    ensures puts { (E : Expr) → Drafted (node_table draft.entry.lists.now) (told_table draft.entry.index.now) E → Memᴰ (listed_at (list_numbers list.now) k) (transitions 0 E) → Put k at (transition_of (places 0 E) (listed_at (list_numbers list.now) k)) rows.old rows.new arcs.old arcs.new }
 {
     let t = list[k];
-    let inputs = count_item(index, Side::Inputs, t);
-    let outputs = count_item(index, Side::Outputs, t);
+    let inputs = count_item(draft.index, Side::Inputs, t);
+    let outputs = count_item(draft.index, Side::Outputs, t);
     let end = at + inputs + outputs;
-    put_arcs(lists, index, t, inputs, &mut arcs[at..end], spare);
+    put_arcs(draft, t, inputs, &mut arcs[at..end], spare);
     put_row(rows, k, t, at as u16, inputs as u16, outputs as u16);
     end
 }
 
 /// All transitions of the list. `spare` is work room of any length.
 pub fn put_transitions(
-    lists: &[Node],
-    index: &[Told],
+    draft: Draft<'_>,
     list: &[Transition],
     rows: &mut [u16],
     arcs: &mut [u16],
     spare: &mut [u16],
 )
-    requires { Asked (node_table lists.now) (told_table index.now) (list_numbers list.now) (length list.now) rows.old arcs.old }
-    ensures rows { (E : Expr) → Whole (node_table lists.now) (told_table index.now) (list_numbers list.now) (length list.now) E → rows.new ≡ sets rows.old 0 (rows_of (net_of E)) }
-    ensures arcs { (E : Expr) → Whole (node_table lists.now) (told_table index.now) (list_numbers list.now) (length list.now) E → arcs.new ≡ sets arcs.old 0 (arcs_of (net_of E)) }
+    requires { Asked (node_table draft.lists.now) (told_table draft.index.now) (list_numbers list.now) (length list.now) rows.old arcs.old }
+    ensures rows { (E : Expr) → Whole (node_table draft.entry.lists.now) (told_table draft.entry.index.now) (list_numbers list.now) (length list.now) E → rows.new ≡ sets rows.old 0 (rows_of (net_of E)) }
+    ensures arcs { (E : Expr) → Whole (node_table draft.entry.lists.now) (told_table draft.entry.index.now) (list_numbers list.now) (length list.now) E → arcs.new ≡ sets arcs.old 0 (arcs_of (net_of E)) }
 {
     let mut at = 0;
     for k in 0..list.len() {
-        at = put_transition(lists, index, list, k, rows, arcs, at, spare);
+        at = put_transition(draft, list, k, rows, arcs, at, spare);
     }
 }

@@ -11,16 +11,16 @@ use Rattle.spread.specs.declared.Told.{Told}
 use Rattle.spread.specs.inner.Numbers.{told_table}
 use Rattle.sides.proofs.first_place.Goals as goal
 
-pub returns-then-node-lists : goal.returns-then-node-lists
-returns-then-node-lists c =
+pub returns-then-node-draft : goal.returns-then-node-draft
+returns-then-node-draft c =
     let a = c.args in
-    let node : c.from-node.result ≡ get_or (told_table a.index.now) (3 * a.i) 0 = c.from-node.ensures ∙ ap (λ (t : Told). t.node) c.told_at.ensures in
-    ap (λ (l : declared.List). l.base) (c.on.ensures ∙ sym (list_of_row a.lists.now c.from-node.result no_node c.if-node-lists.true a.side))
-    ∙ ap (λ k. get_or (node_table a.lists.now) (place_of a.side k) 0) node
+    let node : c.from-node.result ≡ get_or (told_table a.draft.index.now) (3 * a.i) 0 = c.from-node.ensures ∙ ap (λ (t : Told). t.node) c.told_at.ensures in
+    ap (λ (l : declared.List). l.base) (c.on.ensures ∙ sym (list_of_row a.draft.lists.now c.from-node.result no_node c.if-node-draft.true a.side))
+    ∙ ap (λ k. get_or (node_table a.draft.lists.now) (place_of a.side k) 0) node
 
-pub returns-else-node-lists : goal.returns-else-node-lists
-returns-else-node-lists c =
+pub returns-else-node-draft : goal.returns-else-node-draft
+returns-else-node-draft c =
     let a = c.args in
-    let node : c.from-node.result ≡ get_or (told_table a.index.now) (3 * a.i) 0 = c.from-node.ensures ∙ ap (λ (t : Told). t.node) c.told_at.ensures in
-    sym (past_rows a.lists.now a.side c.from-node.result c.if-node-lists.false)
-    ∙ ap (λ k. get_or (node_table a.lists.now) (place_of a.side k) 0) node
+    let node : c.from-node.result ≡ get_or (told_table a.draft.index.now) (3 * a.i) 0 = c.from-node.ensures ∙ ap (λ (t : Told). t.node) c.told_at.ensures in
+    sym (past_rows a.draft.lists.now a.side c.from-node.result c.if-node-draft.false)
+    ∙ ap (λ k. get_or (node_table a.draft.lists.now) (place_of a.side k) 0) node

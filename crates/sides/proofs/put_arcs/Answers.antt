@@ -19,4 +19,4 @@ put_side-requires c =
 
 pub returns : goal.returns
 returns c =
-    sides_placed (node_table c.args.lists.now) (told_table c.args.index.now) (item_of c.args.t.first c.args.t.second) c.args.part.now c.requires.0 c.requires.1 c.put_side.ensures c.put_side-2.ensures
+    sides_placed (node_table c.args.draft.lists.now) (told_table c.args.draft.index.now) (item_of c.args.t.first c.args.t.second) c.args.part.now c.requires.0 c.requires.1 c.put_side.ensures c.put_side-2.ensures

@@ -12,7 +12,7 @@ use Rattle.sides.proofs.put_both.Goals as goal
 
 pub returns-then-is_in_order : goal.returns-then-is_in_order
 returns-then-is_in_order c =
-    pair_in_order (node_table c.args.lists.now) (told_table c.args.index.now) c.args.side c.args.i c.args.j c.args.part.now c.count_of-m.ensures.0 c.put_pair.ensures (c.is_in_order.ensures c.if-is_in_order.true)
+    pair_in_order (node_table c.args.draft.lists.now) (told_table c.args.draft.index.now) c.args.side c.args.i c.args.j c.args.part.now c.count_of-m.ensures.0 c.put_pair.ensures (c.is_in_order.ensures c.if-is_in_order.true)
 
 pub slice_bounds-put_merged-end-then-n-spare : goal.slice_bounds-put_merged-end-then-n-spare
 slice_bounds-put_merged-end-then-n-spare c =

@@ -14,4 +14,4 @@ slice_bounds-merge-end c =
 
 pub returns : goal.returns
 returns c =
-    pair_merged (node_table c.args.lists.now) (told_table c.args.index.now) c.args.side c.args.i c.args.j c.args.part.now c.requires.0 c.put_pair.ensures c.merge.ensures
+    pair_merged (node_table c.args.draft.lists.now) (told_table c.args.draft.index.now) c.args.side c.args.i c.args.j c.args.part.now c.requires.0 c.put_pair.ensures c.merge.ensures

@@ -9,4 +9,4 @@ use Rattle.sides.proofs.put_one.Goals as goal
 
 pub returns : goal.returns
 returns c =
-    let a = c.args in one_placed (node_table a.lists.now) (told_table a.index.now) a.side a.i a.part.now _ (c.from.ensures ∙ ap (λ (t : Told). t.node) c.told_at-node.ensures) c.put_places.ensures
+    let a = c.args in one_placed (node_table a.draft.lists.now) (told_table a.draft.index.now) a.side a.i a.part.now _ (c.from.ensures ∙ ap (λ (t : Told). t.node) c.told_at-node.ensures) c.put_places.ensures

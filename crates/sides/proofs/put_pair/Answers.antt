@@ -18,4 +18,4 @@ put_one-requires c =
 
 pub returns : goal.returns
 returns c =
-    pair_placed (node_table c.args.lists.now) (told_table c.args.index.now) c.args.side c.args.i c.args.j c.args.part.now c.requires.0 c.requires.1 c.put_one.ensures c.put_one-2.ensures
+    pair_placed (node_table c.args.draft.lists.now) (told_table c.args.draft.index.now) c.args.side c.args.i c.args.j c.args.part.now c.requires.0 c.requires.1 c.put_one.ensures c.put_one-2.ensures

@@ -10,7 +10,7 @@ use Rattle.tables.proofs.rows.put_transitions.Goals as goal
 
 pub loop-k-init : goal.loop-k-init
 loop-k-init c =
-    let a = c.args in none_put (node_table a.lists.now) (told_table a.index.now) (list_numbers a.list.now) (length a.list.now) a.rows.now a.arcs.now
+    let a = c.args in none_put (node_table a.draft.lists.now) (told_table a.draft.index.now) (list_numbers a.list.now) (length a.list.now) a.rows.now a.arcs.now
 
 pub put_transition-at-requires : goal.put_transition-at-requires
 put_transition-at-requires c =

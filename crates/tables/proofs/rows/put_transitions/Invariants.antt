@@ -6,4 +6,4 @@ use Rattle.tables.proofs.Puts.{Putting}
 use Rattle.tables.proofs.rows.put_transitions.Given as goal
 
 abbrev pub invariant-loop-k : goal.invariant-loop-k
-invariant-loop-k l = Putting (node_table l.lists) (told_table l.index) (list_numbers l.list) (length l.list) l.k l.at l.initial.rows l.rows l.initial.arcs l.arcs
+invariant-loop-k l = Putting (node_table l.draft.lists.now) (told_table l.draft.index.now) (list_numbers l.list) (length l.list) l.k l.at l.initial.rows l.rows l.initial.arcs l.arcs
