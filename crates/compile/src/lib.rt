@@ -15,6 +15,7 @@ use lists::Node;
 use net::Lent;
 use plan::NODES;
 use plan::table::Row;
+use sides::Draft;
 use spread::Told;
 use tables::kinds::write_kinds;
 use tables::rows::put_transitions;
@@ -59,14 +60,11 @@ fn compile_in<const N: usize>(
     }
     let exits = net.places - net.entries - net.internals;
     write_kinds(kinds, net.entries, net.internals, exits);
-    put_transitions(
-        &lists,
-        &index,
-        &list[..net.transitions],
-        rows,
-        arcs,
-        &mut spare,
-    );
+    let draft = Draft {
+        lists: &lists,
+        index: &index,
+    };
+    put_transitions(draft, &list[..net.transitions], rows, arcs, &mut spare);
     Ok(net)
 }
 

@@ -9,10 +9,14 @@ use lib.ListN.{length}
 use lib.Seq.{length-take-le}
 use lib.Dec.{leb}
 use Rattle.std.proofs.lemmas.Result.{err_from_is_err_and}
-use Rattle.field.specs.Answer.{refused}
+use Rattle.field.specs.Answer.{Answer, refused}
+use Rattle.field.specs.Refusals.{table_too_short}
 use Rattle.field.specs.Says.{number_of}
 use Rattle.net.specs.Check.{tables_reach}
 use Rattle.net.specs.Lent.{lent}
+use Rattle.boxes.specs.Compile.{Counts}
+use Rattle.lists.specs.inner.Numbers.{node_table}
+use Rattle.spread.specs.inner.Numbers.{told_table}
 use Rattle.tables.specs.inner.Rows.{Whole, Asked}
 use Rattle.judging.proofs.FrontRows.{front_list}
 use Rattle.judging.proofs.FinePlans.{is_fine, not_fine, asked}
@@ -40,8 +44,8 @@ returns-then-not-tables_reach g c =
     let n = c.in_ok-net.net in
     let w = is_fine a.plan.now _ _ _ c.judge.result c.judge.ensures.says c.judge.ensures.drawn c.in_ok-net.was in
     let short = sym (reach_is a.kinds.now a.rows.now a.arcs.now n.places n.transitions n.arcs) ∙ sym c.tables_reach.ensures ∙ c.if-not-tables_reach.true in
-    subst (λ x. Leaves a.plan.now (three_lent a.kinds.now a.rows.now a.arcs.now) x a.kinds.now a.rows.now a.arcs.now)
-    (λ i. refused (number_of (c.at.ensures.0 (~ i))) (c.at.ensures.1 (~ i)))
+    let at : ◌≡◌ {A = Answer Counts} (refused (number_of c.at.result.fault) c.at.result.carried) (refused table_too_short 0) = λ i. refused (number_of (c.at.ensures.0 i)) (c.at.ensures.1 i) in
+    subst (λ x. Leaves a.plan.now (three_lent a.kinds.now a.rows.now a.arcs.now) x a.kinds.now a.rows.now a.arcs.now) (sym at)
     (too_short a.plan.now n _ _ _ w (three_lent a.kinds.now a.rows.now a.arcs.now) short)
 
 pub overflow_sub-exits : goal.overflow_sub-exits
@@ -64,8 +68,8 @@ slice_bounds-list-end g c =
     let w = is_fine c.args.plan.now _ _ _ c.judge.result c.judge.ensures.says c.judge.ensures.drawn c.in_ok-net.was in
     omega (arith, w.few_transitions, c.judge.auto.list)
 
-pub slice_bounds-put_transitions-end-3 : goal.slice_bounds-put_transitions-end-3
-slice_bounds-put_transitions-end-3 g c =
+pub slice_bounds-put_transitions-end : goal.slice_bounds-put_transitions-end
+slice_bounds-put_transitions-end g c =
     let w = is_fine c.args.plan.now _ _ _ c.judge.result c.judge.ensures.says c.judge.ensures.drawn c.in_ok-net.was in
     sym (length-take-le c.in_ok-net.net.transitions c.judge.new.list (omega (arith, w.few_transitions, c.judge.auto.list)))
 
@@ -76,7 +80,7 @@ put_transitions-requires g c =
     let w = is_fine a.plan.now _ _ _ c.judge.result c.judge.ensures.says c.judge.ensures.drawn c.in_ok-net.was in
     let fits = sym (reach_is a.kinds.now a.rows.now a.arcs.now n.places n.transitions n.arcs) ∙ sym c.tables_reach.ensures ∙ c.if-not-tables_reach.false in
     let l = reaches a.plan.now n _ _ _ w (three_lent a.kinds.now a.rows.now a.arcs.now) fits in
-    front_list n.transitions c.judge.new.list (omega (arith, w.few_transitions, c.judge.auto.list)) (λ list many. Asked _ _ list many a.rows.now a.arcs.now) (asked a.plan.now n _ _ _ w l.1 l.2)
+    front_list n.transitions c.judge.new.list (omega (arith, w.few_transitions, c.judge.auto.list)) (λ list many. Asked (node_table c.judge.new.lists) (told_table c.judge.new.index) list many a.rows.now a.arcs.now) (asked a.plan.now n _ _ _ w l.1 l.2)
 
 pub returns : goal.returns
 returns g c =
@@ -84,6 +88,6 @@ returns g c =
     let n = c.in_ok-net.net in
     let w = is_fine a.plan.now _ _ _ c.judge.result c.judge.ensures.says c.judge.ensures.drawn c.in_ok-net.was in
     let fits = sym (reach_is a.kinds.now a.rows.now a.arcs.now n.places n.transitions n.arcs) ∙ sym c.tables_reach.ensures ∙ c.if-not-tables_reach.false in
-    let whole = front_list n.transitions c.judge.new.list (omega (arith, w.few_transitions, c.judge.auto.list)) (λ list many. Whole _ _ list many w.expr) w.whole in
+    let whole = front_list n.transitions c.judge.new.list (omega (arith, w.few_transitions, c.judge.auto.list)) (λ list many. Whole (node_table c.judge.new.lists) (told_table c.judge.new.index) list many w.expr) w.whole in
     let t = c.put_transitions.ensures in
     written a.plan.now n _ _ _ w (three_lent a.kinds.now a.rows.now a.arcs.now) fits c.write_kinds.ensures (t.rows w.expr whole) (t.arcs w.expr whole)
