@@ -1,13 +1,15 @@
 -- The answers of `move_tokens`, each with the marking that goes with it: where it refuses, the marking is restored.
 -- Each is what `moves` gives after the tests so far; a test of all items is the test of their places in_one.
-use Prim.Native.Nat.{ℕ, ◌≤◌, ◌<◌}
+use Prim.Native.Nat.{ℕ, suc, ◌≤◌, ◌<◌}
 use mathlib.Core.Path.{◌≡◌, refl, sym, ap, ap₂, ◌∙◌}
-use mathlib.Core.List.{List}
-use mathlib.Core.Bool.{true, false}
+use mathlib.Core.List.{List, [], ◌∷◌}
+use mathlib.Core.Bool.{Bool, true, false, not, cond}
 use native.Mathlib.Omega.{arith}
 use lib.ListN.{length, get_or, length-map}
-use borrow.Author.Tests.{le-leb, lt-leb}
-use Rattle.std.specs.Prelude.{Option, None, Some, Result, Ok, Err, is_some, is_err, MatchOption, MatchResult, OnOk}
+use borrow.Author.Tests.{le-leb, lt-leb, ltb-true, ltb-false}
+use Rattle.std.specs.Prelude.{Option, None, Some, Result, Ok, Err, is_some, is_err, nat_lt, position, MatchResult, OnOk}
+use Rattle.std.specs.List.{position_or_len}
+use Rattle.field.proofs.Tests.{test}
 use Rattle.field.specs.Answer.{Answer, good, refused}
 use Rattle.field.specs.Says.{number_of}
 use Rattle.field.specs.declared.Fault.{Fault}
@@ -31,13 +33,36 @@ pub moves_done : (m m' : List ℕ) (a : Answer (List ℕ)) → a ≡ good m' →
 moves_done m m' a e = record { says = ap told (sym e); leaves = ap (kept m) (sym e) }
 
 -- how many items passed, by whether one is told that did not
-pub item_told : (n h : ℕ) (o : Option ℕ) → MatchOption o (n ≤ h) (λ i. (i ≡ h) × (i < n)) → is_some o ≡ true → h < n
-item_told n h None f e = absurd (let z : false ≡ true = e in cc)
-item_told n h (Some i) f e = omega arith
+module _ (tokens : ℕ) (m rows arcs : List ℕ) (side : Side) where
+  passed_before : (ts : List ℕ) → position_or_len (λ t. not (hold tokens m (side_of side rows arcs t))) ts ≡ holds_each tokens m (sides side rows arcs ts)
+  unfolding holds_each
+  passed_before [] = refl
+  passed_before (t ∷ ts) = test (hold tokens m (side_of side rows arcs t)) (λ e. rw e (omega (arith, passed_before ts))) (λ e. rw e)
 
-pub no_item_told : (n h : ℕ) (o : Option ℕ) → MatchOption o (n ≤ h) (λ i. (i ≡ h) × (i < n)) → is_some o ≡ false → n ≤ h
-no_item_told n h None f e = f
-no_item_told n h (Some i) f e = absurd (let z : true ≡ false = e in cc)
+  module _ (ts : List ℕ) where
+    abbrev first : Option ℕ
+    first = position (λ t. not (hold tokens m (side_of side rows arcs t))) ts
+
+    first_is : first ≡ cond (nat_lt (holds_each tokens m (sides side rows arcs ts)) (length ts)) (Some (holds_each tokens m (sides side rows arcs ts))) None
+    first_is = rw (passed_before ts)
+
+    pub item_found : (o : Option ℕ) (i : ℕ) → o ≡ first → o ≡ Some i → (i ≡ holds_each tokens m (sides side rows arcs ts)) × (i < length ts)
+    item_found o i e f =
+        test (nat_lt (holds_each tokens m (sides side rows arcs ts)) (length ts))
+        (λ l. let same : Some i ≡ Some (holds_each tokens m (sides side rows arcs ts)) = sym f ∙ e ∙ first_is ∙ rw l in let is : i ≡ holds_each tokens m (sides side rows arcs ts) = cc in (is, omega (arith, ltb-true _ _ l)))
+        (λ l. absurd (let differ : Some i ≡ None = sym f ∙ e ∙ first_is ∙ rw l in cc))
+
+    pub none_found : (o : Option ℕ) → o ≡ first → is_some o ≡ false → length ts ≤ holds_each tokens m (sides side rows arcs ts)
+    none_found o e f =
+        test (nat_lt (holds_each tokens m (sides side rows arcs ts)) (length ts))
+        (λ l. absurd (let same : o ≡ Some (holds_each tokens m (sides side rows arcs ts)) = e ∙ first_is ∙ rw l in let differ : true ≡ false = sym (ap is_some same) ∙ f in cc))
+        (λ l. ltb-false _ _ l)
+
+    pub some_found : (o : Option ℕ) → o ≡ first → is_some o ≡ true → holds_each tokens m (sides side rows arcs ts) < length ts
+    some_found o e f =
+        test (nat_lt (holds_each tokens m (sides side rows arcs ts)) (length ts))
+        (λ l. ltb-true _ _ l)
+        (λ l. absurd (let same : o ≡ None = e ∙ first_is ∙ rw l in let differ : false ≡ true = sym (ap is_some same) ∙ f in cc))
 
 pub item_shared : (n h : ℕ) (r : Result (Unit {0}) ℕ) → MatchResult r (λ _. n ≤ h) (λ i. (i ≡ h) × (i < n)) → is_err r ≡ true → h < n
 item_shared n h (Ok u) f e = absurd (let z : false ≡ true = e in cc)

@@ -37,10 +37,6 @@ agree_set ps m m' p x h a q z =
 
 -- over a list of places
 module _ (l : List ℕ) (i p : ℕ) (h : i < length l) (e : p ≡ get_or l i 0) where
-  pub hold_turn : (tokens : ℕ) (m : List ℕ) → hold tokens m (drop i l) ≡ (eqb (get_or m p 0) tokens && hold tokens m (drop (i + 1) l))
-  unfolding all
-  hold_turn tokens m = rw (list_next l i p h e)
-
   pub filled_turn : (tokens : ℕ) (m : List ℕ) → filled tokens m (drop i l) ≡ filled tokens (set m p tokens) (drop (i + 1) l)
   unfolding filled
   filled_turn tokens m = rw (list_next l i p h e)
@@ -50,10 +46,6 @@ module _ (l : List ℕ) (i p : ℕ) (h : i < length l) (e : p ≡ get_or l i 0) 
   shifts_turn from to m = rw (list_next l i p h e)
 
 module _ (l : List ℕ) (i : ℕ) (h : length l ≤ i) where
-  pub hold_end : (tokens : ℕ) (m : List ℕ) → hold tokens m (drop i l) ≡ true
-  unfolding all
-  hold_end tokens m = rw (drop_of_length-le l h)
-
   pub filled_end : (tokens : ℕ) (m : List ℕ) → filled tokens m (drop i l) ≡ m
   unfolding filled
   filled_end tokens m = rw (drop_of_length-le l h)
@@ -91,16 +83,6 @@ module _ (rows arcs ts : List ℕ) (side : Side) (i t : ℕ) (h : i < length ts)
     sides_next : sides side rows arcs (drop i ts) ≡ l ∷ sides side rows arcs (drop (i + 1) ts)
     sides_next = ap (sides side rows arcs) (list_next ts i t h e) ∙ ap (λ (k : List ℕ). k ∷ sides side rows arcs (drop (i + 1) ts)) (sym s)
 
-    -- how many items pass before the first that does not
-    module _ (tokens : ℕ) (m : List ℕ) (n : ℕ) (inv : n ≡ i + holds_each tokens m (sides side rows arcs (drop i ts))) where
-      pub holding_more : hold tokens m l ≡ true → n ≡ i + 1 + holds_each tokens m (sides side rows arcs (drop (i + 1) ts))
-      unfolding holds_each
-      holding_more b = inv ∙ rw (sides_next, b, add-one i, add-suc, suc-add)
-
-      pub holding_no : hold tokens m l ≡ false → i ≡ n
-      unfolding holds_each
-      holding_no b = sym (inv ∙ rw (sides_next, b, add-zero i))
-
     module _ (from to : ℕ) (m : List ℕ) (n : ℕ) (inv : n ≡ i + shifts_each from to m (sides side rows arcs (drop i ts))) where
       pub shifting_more : shifts from to m l ≡ true → n ≡ i + 1 + shifts_each from to (filled to m l) (sides side rows arcs (drop (i + 1) ts))
       unfolding shifts_each
@@ -121,10 +103,6 @@ module _ (rows arcs ts : List ℕ) (side : Side) (i t : ℕ) (h : i < length ts)
         ∙ a q z
 
 module _ (rows arcs ts : List ℕ) (side : Side) (i : ℕ) (h : length ts ≤ i) where
-  pub holding_end : (tokens : ℕ) (m : List ℕ) (n : ℕ) → n ≡ i + holds_each tokens m (sides side rows arcs (drop i ts)) → i ≡ n
-  unfolding holds_each
-  holding_end tokens m n inv = sym (inv ∙ rw (drop_of_length-le ts h, add-zero i))
-
   pub shifting_end : (from to : ℕ) (m : List ℕ) (n : ℕ) → n ≡ i + shifts_each from to m (sides side rows arcs (drop i ts)) → i ≡ n
   unfolding shifts_each
   shifting_end from to m n inv = sym (inv ∙ rw (drop_of_length-le ts h, add-zero i))

@@ -3,16 +3,16 @@
 // the same number before, so that a pass which puts that number there leaves the marking as it was.
 #![tactic(auto)]
 
-ghost use Rattle.std.specs.Prelude.{◌≡◌, ℕ, ◌<◌, ◌≤◌, length, get_or, MatchOption, MatchResult, OnOk};
+ghost use Rattle.std.specs.Prelude.{◌≡◌, ℕ, ◌<◌, ◌≤◌, length, get_or, not, position, All, MatchResult, OnOk};
 ghost use Rattle.algebra.specs.Firing.{count};
 ghost use Rattle.net.specs.declared.Side.TheVariants.{Inputs, Outputs};
 ghost use Rattle.moving.specs.inner.InOrder.{InOrder};
-ghost use Rattle.moving.specs.inner.Moving.{side_of, sides, Below, holds_each, filled, shifts_each, in_one, moves};
+ghost use Rattle.moving.specs.inner.Moving.{side_of, sides, hold, filled, shifts_each, in_one, moves};
 
 use field::{Fault, Refusal};
 use net::Side;
 
-pub mod places;
+mod places;
 
 /// The rows and arcs of a net that is in order: check 30 was passed, or the net was made from a plan.
 #[derive(Clone, Copy)]
@@ -31,7 +31,7 @@ impl<'a> Net<'a> {
     pub fn side(self, t: usize, side: Side) -> &'a [u16]
         requires { t < self.transitions }
         ensures value { result.now ≡ side_of side self.entry.rows.now self.entry.arcs.now t }
-        ensures below { Below self.entry.places result.now }
+        ensures below { All (λ p. p < self.entry.places) result.now }
     {
         let start = net::number(self.rows, t, 3);
         let middle = start + net::number(self.rows, t, 4);
@@ -41,24 +41,29 @@ impl<'a> Net<'a> {
         }
     }
 
+    /// Every place on one side of transition t holds so many tokens.
+    pub fn holds(self, marking: &[u8], t: usize, side: Side, tokens: u8) -> bool
+        requires t_below { t < self.transitions }
+        requires marking_length { length marking.now ≡ self.places }
+        ensures { result ≡ hold tokens marking.now (side_of side self.entry.rows.now self.entry.arcs.now t) }
+    {
+        places::all_hold(marking, self.side(t, side), tokens)
+    }
+
     // The first item that has, on one side, a place with another number of tokens.
     fn first_unlike(self, marking: &[u8], ts: &[u16], side: Side, tokens: u8) -> Option<usize>
         requires marking_length { length marking.now ≡ self.places }
-        requires ts_below { Below self.transitions ts.now }
-        ensures { MatchOption result (length ts.now ≤ holds_each tokens marking.now (sides side self.entry.rows.now self.entry.arcs.now ts.now)) (λ i. (i ≡ holds_each tokens marking.now (sides side self.entry.rows.now self.entry.arcs.now ts.now)) × (i < length ts.now)) }
+        requires ts_below { All (λ t. t < self.transitions) ts.now }
+        ensures { result ≡ position (λ t. not (hold tokens marking.now (side_of side self.entry.rows.now self.entry.arcs.now t))) ts.now }
     {
-        for (i, &t) in ts.iter().enumerate() {
-            if !places::all_hold(marking, self.side(usize::from(t), side), tokens) {
-                return Some(i);
-            }
-        }
-        None
+        ts.iter()
+            .position(|&t| !self.holds(marking, usize::from(t), side, tokens))
     }
 
     // So many tokens at each place on one side of the items.
     fn fill(self, marking: &mut [u8], ts: &[u16], side: Side, tokens: u8)
         requires marking_length { length marking.old ≡ self.places }
-        requires ts_below { Below self.transitions ts.now }
+        requires ts_below { All (λ t. t < self.transitions) ts.now }
         ensures { marking.new ≡ filled tokens marking.old (in_one (sides side self.entry.rows.now self.entry.arcs.now ts.now)) }
     {
         for &t in ts {
@@ -76,7 +81,7 @@ impl<'a> Net<'a> {
         to: u8,
     ) -> Result<(), usize>
         requires marking_length { length marking.old ≡ self.places }
-        requires ts_below { Below self.transitions ts.now }
+        requires ts_below { All (λ t. t < self.transitions) ts.now }
         ensures value { MatchResult result (λ u. length ts.now ≤ shifts_each from to marking.old (sides side self.entry.rows.now self.entry.arcs.now ts.now)) (λ i. (i ≡ shifts_each from to marking.old (sides side self.entry.rows.now self.entry.arcs.now ts.now)) × (i < length ts.now)) }
         ensures marking_after { OnOk result (marking.new ≡ filled to marking.old (in_one (sides side self.entry.rows.now self.entry.arcs.now ts.now))) }
         ensures by_index { (q : ℕ) → count q (in_one (sides side self.entry.rows.now self.entry.arcs.now ts.now)) ≡ 0 → get_or marking.new q 0 ≡ get_or marking.old q 0 }
@@ -92,7 +97,7 @@ impl<'a> Net<'a> {
     /// The tokens of a step's items at the net's part of a marking: 32, 33, 36.
     pub fn move_tokens(self, marking: &mut [u8], ts: &[u16]) -> Result<(), Refusal>
         requires marking_length { length marking.old ≡ self.places }
-        requires ts_below { Below self.transitions ts.now }
+        requires ts_below { All (λ t. t < self.transitions) ts.now }
         ensures { Moves result marking.old marking.new (moves marking.old (sides Inputs self.entry.rows.now self.entry.arcs.now ts.now) (sides Outputs self.entry.rows.now self.entry.arcs.now ts.now)) }
     {
         if let Some(item) = self.first_unlike(marking, ts, Side::Inputs, 1) {

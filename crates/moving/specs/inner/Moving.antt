@@ -1,8 +1,8 @@
 -- Tokens taken and put place by place, as the code does it. That this is the firing of 01 is shown of it.
-use Rattle.std.specs.Prelude.{ℕ, suc, ◌+◌, ◌<◌, List, [], ◌∷◌, ◌++◌, map, Bool, true, cond, ◌&&◌, length, get_or, set, take, drop, eqb, leb}
+use Rattle.std.specs.Prelude.{ℕ, suc, ◌+◌, ◌<◌, List, [], ◌∷◌, ◌++◌, map, Bool, true, cond, ◌&&◌, length, get_or, slice_index, set, take, drop, ◌==◌, eqb, leb}
+use Rattle.std.specs.List.{list_all}
 use Rattle.field.specs.Refusals.{input_empty, input_shared, two_tokens}
 use Rattle.field.specs.Answer.{Answer, good, ◌>>◌, check}
-use Rattle.field.specs.Lists.{all}
 use Rattle.net.specs.inner.Chains.{in_row}
 use Rattle.net.specs.declared.Side.{Side}
 use Rattle.net.specs.declared.Side.TheVariants.{Inputs, Outputs}
@@ -15,17 +15,12 @@ side_of Outputs rows arcs t = take (in_row rows t 5) (drop (in_row rows t 3 + in
 abbrev pub sides : Side → List ℕ → List ℕ → List ℕ → List (List ℕ)
 sides side rows arcs ts = map (side_of side rows arcs) ts
 
--- Every number of a list is below a number of places, or of transitions.
-abbrev pub Below : ℕ → List ℕ → Type 0
-Below limit numbers = (i : ℕ) → i < length numbers → get_or numbers i 0 < limit
-
 -- Every place of a list holds so many tokens.
 abbrev pub hold : ℕ → List ℕ → List ℕ → Bool
-hold tokens m ps = all (λ p. eqb (get_or m p 0) tokens) ps
+hold tokens m ps = list_all (λ p. slice_index m p == tokens) ps
 
 -- How many lists come before the first that has a place with another number of tokens.
 unfoldable pub holds_each : ℕ → List ℕ → List (List ℕ) → ℕ
-unfolding all
 holds_each tokens m [] = 0
 holds_each tokens m (ps ∷ ls) = cond (hold tokens m ps) (suc (holds_each tokens m ls)) 0
 

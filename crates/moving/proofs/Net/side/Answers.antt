@@ -1,8 +1,8 @@
 -- `side`: the part of the arcs that the row tells, whose numbers are places in a net that is in order.
-use Rattle.std.proofs.Common.{sym, subst, ◌∙◌, ap}
+use Rattle.std.proofs.Common.{All, ◌<◌, sym, subst, ◌∙◌, ap}
 use Rattle.net.specs.declared.Side.{Side}
 use Rattle.net.specs.declared.Side.TheVariants.{Inputs, Outputs}
-use Rattle.moving.specs.inner.Moving.{side_of, Below}
+use Rattle.moving.specs.inner.Moving.{side_of}
 use Rattle.moving.proofs.MoveTurns.{side_inputs, side_outputs}
 use Rattle.moving.proofs.Orders.{below_at}
 use Rattle.moving.proofs.Net.side.Goals as goal
@@ -13,7 +13,7 @@ returns-in-Inputs c =
     let same = side_inputs s.rows.now s.arcs.now c.args.t _ _ c.number-start.ensures.0 c.number.ensures.0 in
     record {
       value = same ∙ ap (λ (x : Side). side_of x s.rows.now s.arcs.now c.args.t) (sym c.in-Inputs.is);
-      below = subst (Below s.places) (sym same) (below_at s.rows.now s.arcs.now s.transitions s.places s.in_order c.args.t c.requires Inputs);
+      below = subst (All (λ p. p < s.places)) (sym same) (below_at s.rows.now s.arcs.now s.transitions s.places s.in_order c.args.t c.requires Inputs);
     }
 
 pub returns-in-Outputs : goal.returns-in-Outputs
@@ -22,5 +22,5 @@ returns-in-Outputs c =
     let same = side_outputs s.rows.now s.arcs.now c.args.t _ _ c.number-start.ensures.0 c.number.ensures.0 _ c.number-in-Outputs.ensures.0 in
     record {
       value = same ∙ ap (λ (x : Side). side_of x s.rows.now s.arcs.now c.args.t) (sym c.in-Outputs.is);
-      below = subst (Below s.places) (sym same) (below_at s.rows.now s.arcs.now s.transitions s.places s.in_order c.args.t c.requires Outputs);
+      below = subst (All (λ p. p < s.places)) (sym same) (below_at s.rows.now s.arcs.now s.transitions s.places s.in_order c.args.t c.requires Outputs);
     }
