@@ -11,7 +11,7 @@ use Rattle.field.specs.Lists.{all}
 use Rattle.field.proofs.Answers.{good_not_refused}
 use Rattle.field.proofs.OneResult.{Answered}
 use Rattle.net.specs.Check.{is_net}
-use Rattle.net.specs.Lent.{lent}
+use Rattle.net.specs.Lent.{tables_lent}
 use Rattle.net.specs.Marking.{check_room, check_marking}
 use Rattle.net.proofs.is_net.Kinds as is-net-kinds
 use Rattle.net.proofs.is_net.Reads as is-net-reads
@@ -20,12 +20,12 @@ use Rattle.net.proofs.tokens.has_room.Reads as has-room-reads
 use Rattle.net.proofs.tokens.is_marking.Kinds as is-marking-kinds
 use Rattle.net.proofs.tokens.is_marking.Reads as is-marking-reads
 
-pub is_net_answered : Answered 3 is-net-kinds.ps is-net-kinds.r is-net-reads.Asked is-net-reads.Post
+pub is_net_answered : Answered 2 is-net-kinds.ps is-net-kinds.r is-net-reads.Asked is-net-reads.Post
 is_net_answered = record {
   free = λ κs a. tt;
   one = λ κs a. record {
-    some = ((is_net (lent a.0.now a.1.0.now a.1.1.0.now a.1.1.1.0 a.1.1.1.1.0 a.1.1.1.1.1.0), (tt, (tt, (tt, (tt, (tt, (tt, tt))))))), refl);
-    only = λ x y p q. let r = p ∙ sym q in λ i. (r i, (tt, (tt, (tt, (tt, (tt, (tt, tt)))))));
+    some = ((is_net (tables_lent a.0.now), (tt, tt)), refl);
+    only = λ x y p q. let r = p ∙ sym q in λ i. (r i, (tt, tt));
   };
 }
 

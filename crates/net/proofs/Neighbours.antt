@@ -6,14 +6,14 @@ use native.Mathlib.Numerals.{add-one}
 use mathlib.Core.Path.{◌≡◌, refl, sym, ap, ap₂, ◌∙◌}
 use mathlib.Core.Bool.{Bool, true, false, ◌&&◌}
 use mathlib.Core.List.{List, [], ◌∷◌}
-use borrow.Author.Tests.{eqb-true}
-use lib.ListN.{length, get_or, drop, drop_of_length-le}
+use borrow.Author.Tests.{eqb-true, eq-eqb, ne_eqb}
+use lib.ListN.{length, get_or, drop, length-drop}
 use lib.Seq.{drop-cons}
 use lib.Dec.{T, eqb, leb, ltb, leb→le, le→leb, ltb→lt, lt→ltb}
 use Rattle.field.proofs.Tests.{and_parts, T_true}
 use Rattle.field.proofs.Alls.{and_assoc}
 use Rattle.net.specs.Check.{rising, kinds_after, kinds_ordered}
-use Rattle.net.specs.inner.Passes.{neighbours, list_passes}
+use Rattle.net.specs.inner.Passes.{neighbours, each_next, list_passes}
 use Rattle.net.proofs.Turns.{and_yes}
 
 -- the last number of a list that begins with x
@@ -65,15 +65,15 @@ kinds_to k (j ∷ l) =
     ∙ sym (and_assoc (leb k j) (neighbours leb j l) (eqb (last_of j l) 3))
 
 -- A list with something in it: by its first number, its neighbours and its last.
-pub list_some : (l : List ℕ) (places : ℕ) → (length l ≡ 0 → ⊥) → list_passes places l ≡ (neighbours ltb (get_or l 0 0) (drop 1 l) && ltb (get_or l (length l - 1) 0) places)
-unfolding list_passes
+pub list_some : (l : List ℕ) (places : ℕ) → (length l ≡ 0 → ⊥) → list_passes places l ≡ (each_next ltb l && ltb (get_or l (length l - 1) 0) places)
+unfolding list_passes each_next
 list_some [] places h = absurd (h refl)
 list_some (x ∷ l) places h =
     ap₂ (λ b c. b && c) (T_true (leb 1 (suc (length l))) (le→leb 1 (suc (length l)) (omega arith))) (rising_to 0 places x l)
     ∙ ap₂ (λ b n. b && (neighbours ltb x l && ltb n places)) (T_true (leb 0 x) (le→leb 0 x (omega arith))) (last_at x l)
 
-pub kinds_are : (l : List ℕ) → (length l ≡ 0 → ⊥) → (eqb (get_or l 0 0) 1 && (neighbours leb (get_or l 0 0) (drop 1 l) && eqb (get_or l (length l - 1) 0) 3)) ≡ kinds_ordered l
-unfolding kinds_ordered
+kinds_are : (l : List ℕ) → (length l ≡ 0 → ⊥) → (eqb (get_or l 0 0) 1 && (each_next leb l && eqb (get_or l (length l - 1) 0) 3)) ≡ kinds_ordered l
+unfolding kinds_ordered each_next
 kinds_are [] h = absurd (h refl)
 kinds_are (k ∷ l) h =
     ap (λ n. eqb k 1 && (neighbours leb k l && eqb n 3)) (sym (last_at k l))
@@ -84,43 +84,75 @@ kinds_are (k ∷ l) h =
     after_one true h = ap (λ n. kinds_after n l) (h refl)
     after_one false h = refl
 
+-- Kinds between a 1 and a 3 are in order if none falls; with something else at an end they are not.
+module _ (l : List ℕ) (some : length l ≡ 0 → ⊥) where
+  pub kinds_between : get_or l 0 0 ≡ 1 → get_or l (length l - 1) 0 ≡ 3 → each_next leb l ≡ kinds_ordered l
+  kinds_between e f =
+      sym (and_yes (each_next leb l))
+      ∙ ap₂ (λ b c. b && (each_next leb l && c)) (sym (eq-eqb (get_or l 0 0) 1 e)) (sym (eq-eqb (get_or l (length l - 1) 0) 3 f))
+      ∙ kinds_are l some
+
+  pub kinds_first : (get_or l 0 0 ≡ 1 → ⊥) → false ≡ kinds_ordered l
+  kinds_first h = ap (λ b. b && (each_next leb l && eqb (get_or l (length l - 1) 0) 3)) (sym (ne_eqb (get_or l 0 0) 1 h)) ∙ kinds_are l some
+
+  pub kinds_last : (get_or l (length l - 1) 0 ≡ 3 → ⊥) → false ≡ kinds_ordered l
+  kinds_last h =
+      and_no (eqb (get_or l 0 0) 1) (each_next leb l)
+      ∙ ap (λ c. eqb (get_or l 0 0) 1 && (each_next leb l && c)) (sym (ne_eqb (get_or l (length l - 1) 0) 3 h))
+      ∙ kinds_are l some
+    where
+      and_no : (a b : Bool) → false ≡ (a && (b && false))
+      and_no true true = refl
+      and_no true false = refl
+      and_no false b = refl
+
+pub kinds_few : (l : List ℕ) → length l < 2 → false ≡ kinds_ordered l
+unfolding kinds_ordered kinds_after
+kinds_few [] h = refl
+kinds_few (k ∷ []) h = go (eqb k 1)
+  where
+    go : (b : Bool) → false ≡ (b && false)
+    go true = refl
+    go false = refl
+kinds_few (k ∷ j ∷ l) h = absurd (omega arith)
+
 -- A list with nothing in it.
 pub list_none : (l : List ℕ) (places : ℕ) → length l ≡ 0 → false ≡ list_passes places l
 unfolding list_passes
 list_none [] places h = refl
 list_none (x ∷ l) places h = absurd (omega arith)
 
-pub kinds_none : (l : List ℕ) → length l ≡ 0 → false ≡ kinds_ordered l
-unfolding kinds_ordered
-kinds_none [] h = refl
-kinds_none (k ∷ l) h = absurd (omega arith)
+-- In a list of one there is nothing to compare, and in a list of two there is one thing.
+module _ {A : Type 0} (test : A → A → Bool) where
+  pub next_few : (l : List A) → length l < 2 → true ≡ each_next test l
+  unfolding each_next neighbours
+  next_few [] h = refl
+  next_few (x ∷ []) h = refl
+  next_few (x ∷ y ∷ l) h = absurd (omega arith)
 
--- In a list of one number there is nothing to compare, and in a list of two there is one thing.
-module _ (test : ℕ → ℕ → Bool) where
-  pub neighbours_few : (l : List ℕ) → length l < 2 → true ≡ neighbours test (get_or l 0 0) (drop 1 l)
-  unfolding neighbours
-  neighbours_few [] h = refl
-  neighbours_few (x ∷ []) h = refl
-  neighbours_few (x ∷ y ∷ l) h = absurd (omega arith)
+pub next_two : (test : ℕ → ℕ → Bool) (l : List ℕ) → length l ≡ 2 → test (get_or l 0 0) (get_or l 1 0) ≡ each_next test l
+unfolding each_next neighbours
+next_two test [] h = absurd (omega arith)
+next_two test (x ∷ []) h = absurd (omega arith)
+next_two test (x ∷ y ∷ []) h = sym (and_yes (test x y))
+next_two test (x ∷ y ∷ z ∷ l) h = absurd (omega arith)
 
-  pub neighbours_two : (l : List ℕ) → length l ≡ 2 → test (get_or l 0 0) (get_or l 1 0) ≡ neighbours test (get_or l 0 0) (drop 1 l)
-  unfolding neighbours
-  neighbours_two [] h = absurd (omega arith)
-  neighbours_two (x ∷ []) h = absurd (omega arith)
-  neighbours_two (x ∷ y ∷ []) h = sym (and_yes (test x y))
-  neighbours_two (x ∷ y ∷ z ∷ l) h = absurd (omega arith)
+-- One more is compared with the one before it.
+module _ {A : Type 0} (test : A → A → Bool) (l : List A) (i : ℕ) (so_far whole : Bool) (inv : whole ≡ (so_far && each_next test (drop (i - 1) l))) where
+  pub next_turn : 1 ≤ i → i < length l → (x y : A) → x ≡ get_or l (i - 1) x → y ≡ get_or l i y → whole ≡ ((so_far && test x y) && each_next test (drop (i + 1 - 1) l))
+  unfolding each_next neighbours
+  next_turn a h x y is-x is-y =
+      inv ∙ ap (λ (k : List A). so_far && each_next test k) front
+      ∙ sym (and_assoc so_far (test x y) (neighbours test y (drop (suc i) l)))
+      ∙ ap (λ (k : List A). (so_far && test x y) && each_next test k) (sym back ∙ ap (λ (n : ℕ). drop n l) (let n : i ≡ i + 1 - 1 = omega arith in n))
+    where
+      back : drop i l ≡ y ∷ drop (suc i) l
+      back = drop-cons l i y h ∙ ap (λ (z : A). z ∷ drop (suc i) l) (sym is-y)
 
--- One number more is compared with the one before it.
-module _ (test : ℕ → ℕ → Bool) (l : List ℕ) (i : ℕ) where
-  pub neighbours_turn : (so_far whole : Bool) → 1 ≤ i → i < length l → whole ≡ (so_far && neighbours test (get_or l (i - 1) 0) (drop i l))
-      → whole ≡ ((so_far && test (get_or l (i - 1) 0) (get_or l i 0)) && neighbours test (get_or l (i + 1 - 1) 0) (drop (i + 1) l))
-  unfolding neighbours
-  neighbours_turn so_far whole a h e =
-      let k : i ≡ i + 1 - 1 = omega arith in
-      e ∙ ap (λ m. so_far && neighbours test (get_or l (i - 1) 0) m) (drop-cons l i 0 h)
-      ∙ sym (and_assoc so_far (test (get_or l (i - 1) 0) (get_or l i 0)) (neighbours test (get_or l i 0) (drop (suc i) l)))
-      ∙ ap₂ (λ n m. (so_far && test (get_or l (i - 1) 0) (get_or l i 0)) && neighbours test (get_or l n 0) (drop m l)) k (sym (add-one i))
+      front : drop (i - 1) l ≡ x ∷ (y ∷ drop (suc i) l)
+      front =
+          let n : suc (i - 1) ≡ i = omega arith in
+          drop-cons l (i - 1) x (omega arith) ∙ ap₂ (λ (z : A) (k : List A). z ∷ k) (sym is-x) (ap (λ (m : ℕ). drop m l) n ∙ back)
 
-  pub neighbours_end : (so_far whole : Bool) → length l ≤ i → whole ≡ (so_far && neighbours test (get_or l (i - 1) 0) (drop i l)) → whole ≡ so_far
-  unfolding neighbours
-  neighbours_end so_far whole h e = e ∙ ap (λ m. so_far && neighbours test (get_or l (i - 1) 0) m) (drop_of_length-le l h) ∙ and_yes so_far
+  pub next_end : 1 ≤ i → length l ≤ i → whole ≡ so_far
+  next_end a h = inv ∙ ap (λ (b : Bool). so_far && b) (sym (next_few test (drop (i - 1) l) (omega (arith, length-drop (i - 1) l)))) ∙ and_yes so_far

@@ -2,8 +2,7 @@
 -- True because the pass over the rows tests all that is asked of single transitions, and behind it the pass over the chains tests the pairs.
 use Prim.Native.Nat.{ℕ, ◌*◌, ◌≤◌}
 use mathlib.Core.Path.{◌≡◌, refl, sym, ap, ◌∙◌}
-use mathlib.Core.Bool.{Bool, true, false, not, ◌&&◌}
-use borrow.Author.Tests.{not-true, not-false}
+use mathlib.Core.Bool.{Bool, true, false, ◌&&◌}
 use lib.ListN.{length, take}
 use lib.Dec.{leb, leb→le}
 use Rattle.field.specs.Lists.{all}
@@ -15,19 +14,11 @@ use Rattle.net.proofs.RowsPass.{rows_are}
 use Rattle.net.proofs.PairsPass.{pairs_are}
 
 -- Three numbers that are at most three others.
-pub three_fit : (a a' b b' c c' : ℕ) → (leb a a' && (leb b b' && leb c c')) ≡ true → (a ≤ a') × (b ≤ b') × (c ≤ c')
+three_fit : (a a' b b' c c' : ℕ) → (leb a a' && (leb b b' && leb c c')) ≡ true → (a ≤ a') × (b ≤ b') × (c ≤ c')
 three_fit a a' b b' c c' e =
     let h = and_parts (leb a a') (leb b b' && leb c c') (true_T _ e) in
     let k = and_parts (leb b b') (leb c c') h.1 in
     (leb→le a a' h.0, leb→le b b' k.0, leb→le c c' k.1)
-
--- A test that was made, of a whole that asks for it first: failed, the whole fails; passed, the rest is the whole.
-module _ {whole : Bool} (test rest made : Bool) (e : whole ≡ (test && rest)) (is : made ≡ test) where
-  pub fails : not made ≡ true → false ≡ whole
-  fails n = sym (e ∙ ap (λ (b : Bool). b && rest) (sym is ∙ not-true made n))
-
-  pub passes : not made ≡ false → whole ≡ rest
-  passes n = e ∙ ap (λ (b : Bool). b && rest) (sym is ∙ not-false made n)
 
 module _ (tables : Tables) where
   abbrev rows_test : Bool
@@ -51,23 +42,27 @@ module _ (tables : Tables) where
       go false starts codes e = refl
 
   pub net_tests : is_net tables
-      ≡ ((leb tables.places 2048 && (leb tables.transitions 1024 && leb tables.arc_count 16384))
-      && ((leb tables.places (length tables.kinds) && (leb (6 * tables.transitions) (length tables.rows) && leb tables.arc_count (length tables.arcs)))
-      && (kinds_ordered (take tables.places tables.kinds)
-      && (rows_test && pairs_pass tables.rows tables.transitions))))
+      ≡ (counts_fit tables && (tables_reach tables && (kinds_ordered (take tables.places tables.kinds) && (rows_test && pairs_pass tables.rows tables.transitions))))
   unfolding is_net
   net_tests =
       ap (λ (b : Bool). counts_fit tables && (tables_reach tables && (kinds_ordered (take tables.places tables.kinds) && b))) rows_then_pairs
 
-  -- What a net says of its counts and of the tables that it is lent in.
+  -- What the first test says of the counts, and the second of the tables that they are lent with.
+  pub counts_told : true ≡ counts_fit tables → (tables.places ≤ 2048) × (tables.transitions ≤ 1024) × (tables.arc_count ≤ 16384)
+  unfolding counts_fit
+  counts_told e = three_fit tables.places 2048 tables.transitions 1024 tables.arc_count 16384 (sym e)
+
+  pub reach_told : true ≡ tables_reach tables
+      → (tables.places ≤ length tables.kinds) × (6 * tables.transitions ≤ length tables.rows) × (tables.arc_count ≤ length tables.arcs)
+  unfolding tables_reach
+  reach_told e = three_fit tables.places (length tables.kinds) (6 * tables.transitions) (length tables.rows) tables.arc_count (length tables.arcs) (sym e)
+
+  -- The same of a net.
   pub net_counts : is_net tables ≡ true → (tables.places ≤ 2048) × (tables.transitions ≤ 1024) × (tables.arc_count ≤ 16384)
   unfolding is_net
-  net_counts e =
-      three_fit tables.places 2048 tables.transitions 1024 tables.arc_count 16384 (T_true (counts_fit tables) (and_parts (counts_fit tables) _ (true_T (is_net tables) e)).0)
+  net_counts e = counts_told (sym (T_true (counts_fit tables) (and_parts (counts_fit tables) _ (true_T (is_net tables) e)).0))
 
   pub net_reaches : is_net tables ≡ true
       → (tables.places ≤ length tables.kinds) × (6 * tables.transitions ≤ length tables.rows) × (tables.arc_count ≤ length tables.arcs)
   unfolding is_net
-  net_reaches e =
-      three_fit tables.places (length tables.kinds) (6 * tables.transitions) (length tables.rows) tables.arc_count (length tables.arcs)
-      (T_true (tables_reach tables) (and_parts (tables_reach tables) _ (and_parts (counts_fit tables) _ (true_T (is_net tables) e)).1).0)
+  net_reaches e = reach_told (sym (T_true (tables_reach tables) (and_parts (tables_reach tables) _ (and_parts (counts_fit tables) _ (true_T (is_net tables) e)).1).0))

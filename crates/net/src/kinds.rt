@@ -1,29 +1,15 @@
 // The kinds of a net's places: 1s (entries), then 2s (internals), then 3s (exits), with a 1 and a 3.
-ghost use Rattle.std.specs.Prelude.{◌≡◌, ◌≤◌, length, get_or, drop, leb};
+ghost use Rattle.std.specs.Prelude.{◌≡◌};
 ghost use Rattle.net.specs.Check.{kinds_ordered};
-ghost use Rattle.net.specs.inner.Passes.{neighbours};
 
-// No kind is below the one before it. All are compared, with no way out before the end, so that the machine can compare many at once.
-fn never_fall(kinds: &[u8]) -> bool
-    requires { 1 ≤ length kinds.now }
-    ensures { result ≡ neighbours leb (get_or kinds.now 0 0) (drop 1 kinds.now) }
-{
-    let mut fine = true;
-    let mut i = 1;
-    while i < kinds.len() {
-        fine = fine & (kinds[i - 1] <= kinds[i]);
-        i += 1;
-    }
-    fine
-}
+use crate::lists::each_next;
 
-// The first is 1, the last is 3, and none falls: so all between are 1 to 3.
+// The first is 1, the last is 3, and none is below the one before it: so all between are 1 to 3.
 pub fn in_order(kinds: &[u8]) -> bool
     ensures { result ≡ kinds_ordered kinds.now }
 {
-    let count = kinds.len();
-    if count == 0 {
-        return false;
+    match kinds {
+        [1, .., 3] => each_next(kinds, |one, next| one <= next),
+        _ => false,
     }
-    (kinds[0] == 1) & (never_fall(kinds) & (kinds[count - 1] == 3))
 }

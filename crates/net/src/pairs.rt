@@ -5,59 +5,45 @@ ghost use Rattle.std.specs.Prelude.{◌≡◌, ℕ, ◌+◌, ◌*◌, ◌<◌, �
 ghost use Rattle.net.specs.inner.Chains.{Chains};
 ghost use Rattle.net.specs.inner.Passes.{second_or_256, seconds_differ, pairs_pass, FirstsBelow};
 
-use crate::{chains, rows};
+use crate::chains::Index;
+use crate::tables::Row;
 
-fn no_stamps() -> [u16; field::ACTION_LIMIT + 1]
-    ensures { result ≡ replicate 257 0 }
-{
-    [0u16; field::ACTION_LIMIT + 1]
-}
+// A place for each second action, and the last one for none.
+const SECONDS: usize = field::ACTION_LIMIT + 1;
 
-// The second action of transition t, and 256 for none.
+// The second action of transition t, and 256 for none: it is a place among the stamps.
 fn second(rows: &[u16], t: usize) -> usize
     requires { 6 * t + 6 ≤ length rows.now }
     ensures { (result ≡ second_or_256 rows.now t) × (result < 257) }
 {
-    let action = rows::number(rows, t, 2);
-    if action < field::ACTION_LIMIT {
-        action
-    } else {
-        field::ACTION_LIMIT
-    }
+    usize::from(Row::at(rows, t).second).min(field::ACTION_LIMIT)
 }
 
 // One chain. A second action gets the chain's stamp when it is met; stamps of earlier chains are smaller, so nothing has to be wiped out between two.
 fn chain_differs(
     rows: &[u16],
     transitions: usize,
-    head: &[u16; field::ACTION_LIMIT],
-    next: &[u16; field::TRANSITION_LIMIT],
+    index: &Index,
     first: usize,
-    stamps: &mut [u16],
+    stamps: &mut [u16; SECONDS],
 ) -> bool
-    requires first_bound { (first < 256) × (transitions ≤ 1024) × (6 * transitions ≤ length rows.now) × (257 ≤ length stamps.old) }
-    requires chains { Chains rows.now transitions head.now next.now }
+    requires first_bound { (first < 256) × (transitions ≤ 1024) × (6 * transitions ≤ length rows.now) }
+    requires chains { Chains rows.now transitions index.now.heads index.now.nexts }
     requires by_index { (j : ℕ) → get_or stamps.old j 0 ≤ first }
     ensures value { result ≡ seconds_differ rows.now transitions first }
     ensures by_index_2 { (j : ℕ) → get_or stamps.new j 0 ≤ first + 1 }
 {
     let stamp = (first + 1) as u16;
-    let mut t = head[first] as usize;
+    let mut t = usize::from(index.heads[first]);
     while t < transitions {
         let j = second(rows, t);
         if stamps[j] == stamp {
             return false;
         }
         stamps[j] = stamp;
-        t = next[t] as usize;
+        t = usize::from(index.nexts[t]);
     }
     true
-}
-
-fn greater(a: usize, b: usize) -> usize
-    ensures { (a ≤ result) × (b ≤ result) }
-{
-    if a < b { b } else { a }
 }
 
 // How many chains there may be something on: one above the highest first action, or all 256.
@@ -66,59 +52,33 @@ fn chain_count(rows: &[u16], transitions: usize) -> usize
     ensures { (result ≤ 256) × FirstsBelow rows.now transitions result }
 {
     let mut above = 0;
-    let mut t = 0;
-    while t < transitions {
-        above = greater(above, rows::number(rows, t, 1) + 1);
-        t += 1;
+    for t in 0..transitions {
+        above = above.max(usize::from(Row::at(rows, t).first) + 1);
     }
-    if above < field::ACTION_LIMIT {
-        above
-    } else {
-        field::ACTION_LIMIT
-    }
+    above.min(field::ACTION_LIMIT)
 }
 
-fn chains_differ(
-    rows: &[u16],
-    transitions: usize,
-    head: &[u16; field::ACTION_LIMIT],
-    next: &[u16; field::TRANSITION_LIMIT],
-    chains: usize,
-    stamps: &mut [u16],
-) -> bool
-    requires transitions_bound { (transitions ≤ 1024) × (6 * transitions ≤ length rows.now) × (257 ≤ length stamps.old) }
-    requires chains { Chains rows.now transitions head.now next.now }
-    requires by_index { (j : ℕ) → get_or stamps.old j 0 ≤ 0 }
-    requires chains_bound { (chains ≤ 256) × FirstsBelow rows.now transitions chains }
+fn chains_differ(rows: &[u16], transitions: usize, index: &Index) -> bool
+    requires transitions_bound { (transitions ≤ 1024) × (6 * transitions ≤ length rows.now) }
+    requires chains { Chains rows.now transitions index.now.heads index.now.nexts }
     ensures { result ≡ pairs_pass rows.now transitions }
 {
-    let mut first: usize = 0;
-    while first < chains {
-        if chain_differs(rows, transitions, head, next, first, stamps) {
-            first += 1;
-        } else {
+    let chains = chain_count(rows, transitions);
+    let mut stamps = [0; SECONDS];
+    for first in 0..chains {
+        if !chain_differs(rows, transitions, index, first, &mut stamps) {
             return false;
         }
     }
     true
 }
 
-// The index of the transitions is left in `head` and `next`, for who looks for an action later.
-pub fn differ(
-    rows: &[u16],
-    transitions: usize,
-    head: &mut [u16; field::ACTION_LIMIT],
-    next: &mut [u16; field::TRANSITION_LIMIT],
-) -> bool
+// The index of the transitions is left in `index`, for who looks for an action later.
+pub fn differ(rows: &[u16], transitions: usize, index: &mut Index) -> bool
     requires transitions_bound { (transitions ≤ 1024) × (6 * transitions ≤ length rows.now) }
-    requires head_value { head.old ≡ replicate 256 65535 }
+    requires head_value { index.old.heads ≡ replicate 256 65535 }
     ensures value { result ≡ pairs_pass rows.now transitions }
-    ensures chains { Chains rows.now transitions head.new next.new }
+    ensures chains { Chains rows.now transitions index.new.heads index.new.nexts }
 {
-    if chains::link(rows, transitions, head, next) {
-        return true;
-    }
-    let mut stamps = no_stamps();
-    let chains = chain_count(rows, transitions);
-    chains_differ(rows, transitions, head, next, chains, &mut stamps)
+    index.link(rows, transitions) || chains_differ(rows, transitions, index)
 }

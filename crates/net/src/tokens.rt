@@ -10,28 +10,22 @@ fn at_most_one(marking: &[u8]) -> bool
     ensures { result ≡ all (λ x. leb x 1) marking.now }
 {
     let mut fine = true;
-    let mut i = 0;
-    while i < marking.len() {
-        fine = fine & (marking[i] <= 1);
-        i += 1;
+    for tokens in marking {
+        fine &= *tokens <= 1;
     }
     fine
 }
 
-// There is a byte for each place: all that replay asks of a buffer that it fills itself.
+/// There is a byte for each place: all that replay asks of a buffer that it fills itself.
 pub fn has_room(marking: &[u8], places: usize) -> bool
     ensures { check_room places marking.now ≡ check result no_marking 0 }
 {
     places <= marking.len()
 }
 
-// There is a byte for each place, and none of these is above 1: what firing and the enabled list ask.
+/// There is a byte for each place, and none of these is above 1: what firing and the enabled list ask.
 pub fn is_marking(marking: &[u8], places: usize) -> bool
     ensures { check_marking places marking.now ≡ check result no_marking 0 }
 {
-    if places <= marking.len() {
-        at_most_one(&marking[..places])
-    } else {
-        false
-    }
+    has_room(marking, places) && at_most_one(&marking[..places])
 }

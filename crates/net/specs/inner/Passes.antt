@@ -13,10 +13,15 @@ codes_pass label first second = not (eqb label 128) && (leb label 255 && (leb fi
 unfoldable pub list_passes : ℕ → List ℕ → Bool
 list_passes places ps = leb 1 (length ps) && rising 0 places ps
 
--- Each number of a list passes a test with the one before it, the first one with a number.
-unfoldable pub neighbours : (ℕ → ℕ → Bool) → ℕ → List ℕ → Bool
+-- Each of a list passes a test with the one before it; the first one with another before the list.
+unfoldable pub neighbours : {A : Type 0} → (A → A → Bool) → A → List A → Bool
 neighbours test x [] = true
 neighbours test x (y ∷ ys) = test x y && neighbours test y ys
+
+unfoldable pub each_next : {A : Type 0} → (A → A → Bool) → List A → Bool
+unfolding neighbours
+each_next test [] = true
+each_next test (x ∷ xs) = neighbours test x xs
 
 -- Where the arcs of transition t end, if they start at a number.
 abbrev pub row_end : List ℕ → ℕ → ℕ → ℕ

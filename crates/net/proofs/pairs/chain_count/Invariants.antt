@@ -1,9 +1,6 @@
-use Prim.Native.Nat.{ℕ, ◌-◌, ◌≤◌, ◌<◌}
+use Prim.Native.Nat.{ℕ, ◌<◌}
 use Rattle.net.specs.inner.Chains.{in_row}
 use Rattle.net.proofs.pairs.chain_count.Given as goal
 
 abbrev pub invariant-loop-t : goal.invariant-loop-t
-invariant-loop-t l = (l.t ≤ l.transitions) × ((k : ℕ) → k < l.t → in_row l.rows k 1 < l.above)
-
-abbrev pub decreases-loop-t : goal.decreases-loop-t
-decreases-loop-t l = l.transitions - l.t
+invariant-loop-t l = (k : ℕ) → k < l.t → in_row l.rows k 1 < l.above

@@ -1,12 +1,18 @@
--- `rise`: a list of one number, of two, and a longer one by `each_above`. Assumes nothing.
+-- `rise`: a list of at most one number, of two, and a longer one by `each_next`. Assumes nothing.
+use borrow.Author.Rules.{rules}
+use native.Mathlib.Omega.{arith}
 use lib.Dec.{ltb}
-use Rattle.net.proofs.Neighbours.{neighbours_few, neighbours_two}
+use Rattle.net.proofs.Neighbours.{next_few, next_two}
 use Rattle.net.proofs.rows.rise.Goals as goal
 
-pub returns-then-list-lt2 : goal.returns-then-list-lt2
-returns-then-list-lt2 c =
-    neighbours_few ltb c.args.list.now c.if-list-lt2.true
+pub returns-in-empty : goal.returns-in-empty
+returns-in-empty c =
+    next_few ltb c.args.list.now (omega arith)
 
-pub returns-then-list-eq2 : goal.returns-then-list-eq2
-returns-then-list-eq2 c =
-    neighbours_two ltb c.args.list.now c.if-list-eq2.true
+pub returns-in-len2 : goal.returns-in-len2
+returns-in-len2 c =
+    next_two ltb c.args.list.now (omega arith)
+
+pub returns-in_default : goal.returns-in_default
+returns-in_default c =
+    c.each_next.ensures ltb (λ x y r p. search rules)

@@ -5,14 +5,13 @@ use lib.Dec.{leb}
 use Rattle.net.proofs.Turns.{all_so_far_turn, all_so_far_end}
 use Rattle.net.proofs.tokens.at_most_one.Goals as goal
 
-pub loop-i-init : goal.loop-i-init
-loop-i-init c =
-    (omega arith, refl)
+pub loop-tokens-init : goal.loop-tokens-init
+loop-tokens-init c = refl
 
-pub loop-i-preserved : goal.loop-i-preserved
-loop-i-preserved c =
-    let l = c.loop-i in (omega arith, all_so_far_turn _ l.i (λ x. leb x 1) l.fine _ l.invariant.1 (omega arith))
+pub loop-tokens-preserved : goal.loop-tokens-preserved
+loop-tokens-preserved c =
+    let l = c.loop-tokens in all_so_far_turn _ l.tokens-index (λ x. leb x 1) l.fine _ l.invariant (omega arith)
 
 pub returns : goal.returns
 returns c =
-    let l = c.loop-i in sym (all_so_far_end _ l.i (λ x. leb x 1) l.fine _ l.invariant.1 c.loop-i-test.false)
+    let l = c.loop-tokens in sym (all_so_far_end _ l.tokens-index (λ x. leb x 1) l.fine _ l.invariant c.loop-tokens-test.false)
