@@ -9,8 +9,8 @@ use lib.ListN.{length, get_or, take, drop, length-append, length-drop, take-appe
 use lib.Seq.{drop-nil, take_all}
 use lib.Dec.{T, eqb, leb, leb→le, eqb→eq}
 use borrow.Author.Tests.{le-leb, leb-true, eq-eqb, eqb-true}
-use Rattle.field.specs.Refusals.{record_field_cut, wrong_tag, wrong_length, not_rising}
-use Rattle.field.specs.Answer.{Answer, good, refused, ◌>>=◌, check}
+use Rattle.field.specs.Refusals.{wrong_tag, wrong_length, not_rising}
+use Rattle.field.specs.Answer.{Answer, good, refused}
 use Rattle.field.specs.Field.{tag_of, length_of, body_of, field}
 use Rattle.field.specs.Lists.{all}
 use Rattle.field.proofs.AreBytes.{AreBytes}
@@ -19,11 +19,8 @@ use Rattle.field.proofs.Tests.{and_parts, parts_and, true_T}
 use Rattle.field.proofs.Fields.{field_length, field_length_of, field_body_of, field_front}
 use Rattle.algebra.specs.Item.{Item, one, two, first}
 use Rattle.form.specs.Form.{ItemTag, one_tag, two_tag, ItemRead, StepRead, Recorded, step, one_more, check_header, item_tag, action_count, item_spelt, read_item, read_items, read_step, read_lent_step, read_steps}
+use Rattle.form.proofs.ItemForms.{header_passes, header_tests, tag_number}
 use Rattle.form.specs.Bytes.{encode_item, encode_items, encode_step, encode_record, firsts_rise, numbered, step_within, steps_within, recorded}
-
-header_passes : (at : ℕ) (s : List ℕ) → 3 ≤ length s → length_of s ≤ length s - 3 → check_header at s ≡ good tt
-unfolding check_header
-header_passes at s h l = rw (le-leb 3 (length s) h, le-leb (length_of s) (length s - 3) l)
 
 item_reads : (at least : ℕ) (i : Item) (rest : List ℕ) → least ≤ first i → read_item at least (encode_item i ++ rest) ≡ good (record { item = i; bytes = length (encode_item i) })
 unfolding read_item encode_item
@@ -100,33 +97,16 @@ pub record_reads_back : (Ss : List (List Item)) → T (steps_within Ss) → read
 record_reads_back Ss t = record_reads 0 Ss t
 
 -- The other way: what was read stands in the bytes as it is encoded.
-abbrev item_number : ItemTag → ℕ
-item_number one_tag = 0x21
-item_number two_tag = 0x22
-
-tag_at_number : (at t : ℕ) (g : ItemTag) → item_tag at t ≡ good g → t ≡ item_number g
+tag_at_number : (at t : ℕ) (g : ItemTag) → item_tag at t ≡ good g → t ≡ tag_number g
 unfolding item_tag
 tag_at_number at t g = go (eqb t 0x21) (eqb t 0x22) refl refl
   where
-    go : (a b : Bool) → eqb t 0x21 ≡ a → eqb t 0x22 ≡ b → cond a (good one_tag) (cond b (good two_tag) (refused wrong_tag at)) ≡ good g → t ≡ item_number g
-    go true b i j e = eqb-true t 0x21 i ∙ ap item_number (good_same one_tag g e)
-    go false true i j e = eqb-true t 0x22 j ∙ ap item_number (good_same two_tag g e)
+    go : (a b : Bool) → eqb t 0x21 ≡ a → eqb t 0x22 ≡ b → cond a (good one_tag) (cond b (good two_tag) (refused wrong_tag at)) ≡ good g → t ≡ tag_number g
+    go true b i j e = eqb-true t 0x21 i ∙ ap tag_number (good_same one_tag g e)
+    go false true i j e = eqb-true t 0x22 j ∙ ap tag_number (good_same two_tag g e)
     go false false i j e = good_not_refused (refused wrong_tag at) g wrong_tag at e refl
 
--- the tests of a header that was read
-header_tests : {A : Type 0} (at : ℕ) (s : List ℕ) (f : Unit {0} → Answer A) (x : A) → (check_header at s >>= f) ≡ good x → (3 ≤ length s) × (length_of s ≤ length s - 3) × (f tt ≡ good x)
-unfolding check_header
-header_tests at s f x e =
-    let (u, h, g) = bind_good (check_header at s) f x e in
-    let (long, k) = check_good (leb 3 (length s)) record_field_cut at _ u h in
-    let (room, m) = check_good (leb (length_of s) (length s - 3)) record_field_cut at (λ v. good v) u (go (leb (length_of s) (length s - 3)) k) in
-    (leb-true 3 (length s) long, leb-true (length_of s) (length s - 3) room, g)
-  where
-    go : {u : Unit {0}} (b : Bool) → check b record_field_cut at ≡ good u → (check b record_field_cut at >>= (λ (v : Unit {0}). good v)) ≡ good u
-    go true e = e
-    go false e = e
-
-item_spells : (t : ItemTag) (s : List ℕ) → length_of s ≤ length s - 3 → tag_of s ≡ item_number t → length_of s ≡ action_count t
+item_spells : (t : ItemTag) (s : List ℕ) → length_of s ≤ length s - 3 → tag_of s ≡ tag_number t → length_of s ≡ action_count t
     → s ≡ encode_item (item_spelt t s) ++ drop (3 + action_count t) s
 unfolding encode_item
 item_spells one_tag (x ∷ y ∷ z ∷ a ∷ s) l g n =

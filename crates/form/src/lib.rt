@@ -1,196 +1,135 @@
-// The form of a step field and of its items: 01, "Run records", and the refusals 21 to 24. A refusal here is its number alone: what it
+// The form of a step field and of its items: 01, "Run records", and the refusals 21 to 24. A refusal here is its reason alone: what it
 // carries, the step's offset, is known to the caller.
 #![tactic(auto)]
 
-ghost use Rattle.std.specs.Prelude.{◌≡◌, ℕ, length, replicate};
-ghost use Rattle.form.specs.Form.{read_item, read_items, read_step, read_lent_step};
-ghost use Rattle.form.specs.inner.FormSays.{tag_count, item_says, ItemFits, item_number, items_say, ItemsFit, head_says, HeadFits, step_head, step_says, StepFits};
+ghost use Rattle.std.specs.Prelude.{◌≡◌, ℕ, ◌+◌, ◌≤◌, length, replicate, None, IfOk};
+ghost use Rattle.form.specs.Form.{read_item, read_items, read_lent_step};
+ghost use Rattle.form.specs.inner.FormSays.{says_at, header_read, header, item_read, items_in, ItemsFit, step_head};
 
-// What stands for the second action of an item that has one action only.
-const NO_SECOND: u16 = field::NO_SECOND as u16;
+use field::Fault;
 
-// First actions strictly rise and are bytes, so a step has no more items.
+/// First actions strictly rise and are bytes, so a step has no more items.
 pub const MOST_ITEMS: usize = field::ACTION_LIMIT;
 
-// The item at the front of what is left of a body, and the bytes that it takes.
+/// One action, or two, the a side first: 01, "Run records".
+#[derive(Clone, Copy, Debug, Default, PartialEq, Eq)]
+pub struct Item {
+    pub first: u8,
+    pub second: Option<u8>,
+}
+
+/// The item at the front of what is left of a body, and the bytes that it takes.
+#[derive(Clone, Copy, Debug, PartialEq, Eq)]
+pub struct ItemRead {
+    pub item: Item,
+    pub bytes: usize,
+}
+
+/// Room for each item of a step.
+pub fn no_items() -> [Item; MOST_ITEMS]
+    ensures { result ≡ replicate 256 (record { first = 0; second = None }) }
+{
+    [Item::default(); MOST_ITEMS]
+}
+
+// A field of a record: 01, "House form".
 #[derive(Clone, Copy)]
-pub enum ItemAnswer {
-    Refused(usize),
-    Item {
-        first: u16,
-        second: u16,
-        bytes: usize,
-    },
+struct Header<'a> {
+    tag: u8,
+    body: &'a [u8],
 }
 
-// How many items a body has.
-#[derive(Clone, Copy)]
-pub enum ItemsAnswer {
-    Refused(usize),
-    Items(usize),
-}
-
-// The length of a step's body, which stands behind three bytes.
-#[derive(Clone, Copy)]
-pub enum HeadAnswer {
-    Refused(usize),
-    Body(usize),
-}
-
-// How many items a step has, and the bytes that it takes.
-#[derive(Clone, Copy)]
-pub enum StepAnswer {
-    Refused(usize),
-    Step { items: usize, bytes: usize },
-}
-
-// Room for a number for each item of a step.
-pub fn no_numbers() -> [u16; MOST_ITEMS]
-    ensures { result ≡ replicate 256 0 }
+// The field at the front of the bytes: "21 is under 3 bytes left or a length beyond what encloses the field, and both stand before 22."
+fn read_header(s: &[u8]) -> Result<Header<'_>, Fault>
+    ensures says { (at : ℕ) → says_at at header_read result ≡ header at s.now }
+    ensures fits { IfOk result (λ h. 3 + length h.body.now ≤ length s.now) }
 {
-    [0u16; MOST_ITEMS]
+    let [tag, high, low, left @ ..] = s else {
+        return Err(Fault::RecordFieldCut);
+    };
+    let len = usize::from(u16::from_be_bytes([*high, *low]));
+    if left.len() < len {
+        return Err(Fault::RecordFieldCut);
+    }
+    Ok(Header {
+        tag: *tag,
+        body: &left[..len],
+    })
 }
 
-// The actions that an item of a tag has; 0 where the tag is no item's.
-fn action_count(tag: u8) -> usize
-    ensures { result ≡ tag_count tag }
+/// The tests of one item, in 01's order. `s` is what is left of the step's body, and `least` the least first action that rises.
+pub fn read_item(s: &[u8], least: usize) -> Result<ItemRead, Fault>
+    ensures says { (at : ℕ) → says_at at item_read result ≡ read_item at least s.now }
+    ensures fits { IfOk result (λ r. (least ≤ r.item.first) × (1 ≤ r.bytes) × (r.bytes ≤ length s.now)) }
 {
-    if tag == 0x21 {
-        return 1;
-    }
-    if tag == 0x22 {
-        return 2;
-    }
-    0
-}
-
-// The tests of one item, in 01's order. `s` is what is left of the step's body, and `least` the least first action that rises.
-pub fn read_item(s: &[u8], least: usize) -> ItemAnswer
-    ensures says { (at : ℕ) → item_says at result ≡ read_item at least s.now }
-    ensures fits { ItemFits least (length s.now) result }
-{
-    if s.len() < 3 {
-        return ItemAnswer::Refused(field::RECORD_FIELD_CUT);
-    }
-    let len = s[1] as usize * 256 + s[2] as usize;
-    if s.len() - 3 < len {
-        return ItemAnswer::Refused(field::RECORD_FIELD_CUT);
-    }
-    let count = action_count(s[0]);
-    if count == 0 {
-        return ItemAnswer::Refused(field::WRONG_TAG);
-    }
-    if len != count {
-        return ItemAnswer::Refused(field::WRONG_LENGTH);
-    }
-    let first = s[3] as usize;
-    if first < least {
-        return ItemAnswer::Refused(field::NOT_RISING);
-    }
-    if count == 1 {
-        return ItemAnswer::Item {
-            first: first as u16,
-            second: NO_SECOND,
-            bytes: 4,
-        };
-    }
-    ItemAnswer::Item {
-        first: first as u16,
-        second: s[4] as u16,
-        bytes: 5,
-    }
-}
-
-fn number_of(r: ItemAnswer) -> usize
-    ensures { result ≡ item_number r }
-{
-    match r {
-        ItemAnswer::Refused(n) => n,
-        ItemAnswer::Item {
-            first: _,
-            second: _,
-            bytes: _,
-        } => 0,
-    }
-}
-
-// An array that is lent as a slice tells its length to the proof: what `read_items` says of its two lists rests on that.
-fn numbers_in(s: &[u16]) -> usize
-    ensures { result ≡ length s.now }
-{
-    s.len()
-}
-
-// The items of a step's body, left to right, into two lists: the first actions and the second.
-pub fn read_items(
-    body: &[u8],
-    firsts: &mut [u16; MOST_ITEMS],
-    seconds: &mut [u16; MOST_ITEMS],
-) -> ItemsAnswer
-    ensures says { (at : ℕ) → items_say at result firsts.new seconds.new ≡ read_items at 0 0 body.now }
-    ensures fits { ItemsFit result firsts.new seconds.new }
-{
-    numbers_in(firsts);
-    numbers_in(seconds);
-    let mut count: usize = 0;
-    let mut at: usize = 0;
-    let mut least: usize = 0;
-    while at < body.len() {
-        let r = read_item(&body[at..], least);
-        let ItemAnswer::Item {
+    let field = read_header(s)?;
+    // "21 hex with one action, or 22 hex with two, the a side first"
+    let item = match (field.tag, field.body) {
+        (0x21, &[first]) => Item {
             first,
-            second,
-            bytes,
-        } = r
-        else {
-            return ItemsAnswer::Refused(number_of(r));
+            second: None,
+        },
+        (0x22, &[first, second]) => Item {
+            first,
+            second: Some(second),
+        },
+        (0x21 | 0x22, _) => return Err(Fault::WrongLength),
+        _ => return Err(Fault::WrongTag),
+    };
+    if usize::from(item.first) < least {
+        return Err(Fault::NotRising);
+    }
+    Ok(ItemRead {
+        item,
+        bytes: 3 + field.body.len(),
+    })
+}
+
+/// The items of a step's body, left to right; how many there are.
+pub fn read_items(body: &[u8], items: &mut [Item; MOST_ITEMS]) -> Result<usize, Fault>
+    ensures says { (at : ℕ) → says_at at (λ n. items_in n items.new) result ≡ read_items at 0 0 body.now }
+    ensures fits { IfOk result (ItemsFit items.new) }
+{
+    let mut rest = body;
+    let mut count = 0;
+    let mut least = 0;
+    while !rest.is_empty() {
+        // 01, "Form by location": the item's answer is taken apart by let-else, and a refusal leaves early.
+        let answer = read_item(rest, least);
+        let Ok(ItemRead { item, bytes }) = answer else {
+            return answer.and(Ok(count));
         };
-        firsts[count] = first;
-        seconds[count] = second;
+        items[count] = item;
         count += 1;
-        at += bytes;
-        least = first as usize + 1;
+        least = usize::from(item.first) + 1;
+        rest = &rest[bytes..];
     }
-    ItemsAnswer::Items(count)
+    Ok(count)
 }
 
-// The header of the step field at the front of the bytes.
-pub fn step_head(s: &[u8]) -> HeadAnswer
-    ensures says { (at : ℕ) → head_says at result ≡ step_head at s.now }
-    ensures fits { HeadFits (length s.now) result }
+/// The length of the body of the step field at the front of the bytes.
+pub fn step_head(s: &[u8]) -> Result<usize, Fault>
+    ensures says { (at : ℕ) → says_at at (λ n. n) result ≡ step_head at s.now }
+    ensures fits { IfOk result (λ n. 3 + n ≤ length s.now) }
 {
-    if s.len() < 3 {
-        return HeadAnswer::Refused(field::RECORD_FIELD_CUT);
+    let field = read_header(s)?;
+    if field.tag != 0x20 {
+        return Err(Fault::WrongTag);
     }
-    let len = s[1] as usize * 256 + s[2] as usize;
-    if s.len() - 3 < len {
-        return HeadAnswer::Refused(field::RECORD_FIELD_CUT);
+    if field.body.is_empty() {
+        return Err(Fault::WrongLength);
     }
-    if s[0] != 0x20 {
-        return HeadAnswer::Refused(field::WRONG_TAG);
-    }
-    if len == 0 {
-        return HeadAnswer::Refused(field::WRONG_LENGTH);
-    }
-    HeadAnswer::Body(len)
+    Ok(field.body.len())
 }
 
-// The one step field that firing is lent: bytes behind it are refused before its items are read.
-pub fn read_lent_step(
-    s: &[u8],
-    firsts: &mut [u16; MOST_ITEMS],
-    seconds: &mut [u16; MOST_ITEMS],
-) -> ItemsAnswer
-    ensures says { items_say 0 result firsts.new seconds.new ≡ read_lent_step s.now }
-    ensures fits { ItemsFit result firsts.new seconds.new }
+/// The one step field that firing is lent: bytes behind it are refused before its items are read. How many items it has.
+pub fn read_lent_step(s: &[u8], items: &mut [Item; MOST_ITEMS]) -> Result<usize, Fault>
+    ensures says { says_at 0 (λ n. items_in n items.new) result ≡ read_lent_step s.now }
+    ensures fits { IfOk result (ItemsFit items.new) }
 {
-    match step_head(s) {
-        HeadAnswer::Refused(n) => ItemsAnswer::Refused(n),
-        HeadAnswer::Body(len) => {
-            if len != s.len() - 3 {
-                return ItemsAnswer::Refused(field::WRONG_LENGTH);
-            }
-            read_items(&s[3..], firsts, seconds)
-        }
+    let len = step_head(s)?;
+    if len != s.len() - 3 {
+        return Err(Fault::WrongLength);
     }
+    read_items(&s[3..], items)
 }

@@ -1,88 +1,72 @@
-// 01, "Run records": "Records are read through a reader that keeps the record's bytes and its place together." The functions over the
-// reader take it apart or make it anew; the work is `head_at`'s, on the bytes and the place. Other callers use `head_of` and `step_at`.
+// 01, "Run records": "Records are read through a reader that keeps the record's bytes and its place together."
 #![tactic(auto)]
 
-ghost use Rattle.std.specs.Prelude.{◌≡◌, ◌+◌, ◌≤◌, length, drop};
+ghost use Rattle.std.specs.Prelude.{◌≡◌, ℕ, ◌+◌, ◌≤◌, length, drop, IfOk};
 ghost use Rattle.form.specs.Form.{read_step};
-ghost use Rattle.form.specs.inner.FormSays.{head_says, HeadFits, step_head, step_says, StepFits};
+ghost use Rattle.form.specs.inner.FormSays.{says_at, step_head};
+ghost use Rattle.record.specs.inner.RecordSays.{step_read, StepFits};
 
-use form::{HeadAnswer, ItemsAnswer, MOST_ITEMS, StepAnswer, read_items, step_head};
+use field::Fault;
+use form::{Item, MOST_ITEMS, read_items, step_head};
 
-// A record, and the offset of the step that is read next.
-#[derive(Clone, Copy)]
+/// How many items a step has, and the bytes that it takes.
+#[derive(Clone, Copy, Debug, PartialEq, Eq)]
+pub struct StepRead {
+    pub items: usize,
+    pub bytes: usize,
+}
+
+/// A record, and the offset of the step that is read next.
+#[derive(Clone, Copy, Debug)]
 pub struct RecordReader<'a> {
     bytes: &'a [u8],
     at: usize,
+    ghost within: { at ≤ length bytes.now },
 }
 
-// The header of the step field at an offset.
-fn head_at(record: &[u8], at: usize) -> HeadAnswer
-    requires { at ≤ length «record».now }
-    ensures says { head_says at result ≡ step_head at (drop at «record».now) }
-    ensures fits { HeadFits (length (drop at «record».now)) result }
-{
-    step_head(&record[at..])
-}
-
-// A reader at the front of a record.
-pub fn new<'a>(bytes: &'a [u8]) -> RecordReader<'a>
-    ensures { (result.bytes ≡ bytes.entry) × (result.at ≡ 0) }
-{
-    RecordReader { bytes, at: 0 }
-}
-
-// The reader so many bytes further on.
-pub fn past<'a>(r: RecordReader<'a>, bytes: usize) -> RecordReader<'a>
-    requires { r.at + bytes ≤ length r.bytes.now }
-    ensures { (result.bytes ≡ r.entry.bytes) × (result.at ≡ r.entry.at + bytes) }
-{
-    RecordReader {
-        bytes: r.bytes,
-        at: r.at + bytes,
+impl<'a> RecordReader<'a> {
+    /// A reader at the front of a record.
+    pub fn new(bytes: &'a [u8]) -> Self
+        ensures { (result.bytes ≡ bytes.entry) × (result.at ≡ 0) }
+    {
+        RecordReader { bytes, at: 0 }
     }
-}
 
-// The header of the step field at the reader's place.
-pub fn head<'a>(r: RecordReader<'a>) -> HeadAnswer
-    requires { r.at ≤ length r.bytes.now }
-    ensures says { head_says r.entry.at result ≡ step_head r.entry.at (drop r.entry.at r.entry.bytes.now) }
-    ensures fits { HeadFits (length (drop r.entry.at r.entry.bytes.now)) result }
-{
-    head_at(r.bytes, r.at)
-}
-
-// The same of a record and an offset, read through a reader that is moved there.
-pub fn head_of(record: &[u8], at: usize) -> HeadAnswer
-    requires { at ≤ length «record».now }
-    ensures says { head_says at result ≡ step_head at (drop at «record».now) }
-    ensures fits { HeadFits (length (drop at «record».now)) result }
-{
-    head(past(new(record), at))
-}
-
-// The step at an offset of a record, behind which more may follow.
-pub fn step_at(
-    record: &[u8],
-    at: usize,
-    firsts: &mut [u16; MOST_ITEMS],
-    seconds: &mut [u16; MOST_ITEMS],
-) -> StepAnswer
-    requires { at ≤ length «record».now }
-    ensures says { step_says at result firsts.new seconds.new ≡ read_step at (drop at «record».now) }
-    ensures fits { StepFits (length (drop at «record».now)) result firsts.new seconds.new }
-{
-    match head_of(record, at) {
-        HeadAnswer::Refused(n) => StepAnswer::Refused(n),
-        HeadAnswer::Body(len) => {
-            let start = at + 3;
-            let end = start + len;
-            match read_items(&record[start..end], firsts, seconds) {
-                ItemsAnswer::Refused(n) => StepAnswer::Refused(n),
-                ItemsAnswer::Items(count) => StepAnswer::Step {
-                    items: count,
-                    bytes: 3 + len,
-                },
-            }
+    /// The reader so many bytes further on.
+    pub fn past(self, bytes: usize) -> Self
+        requires { self.at + bytes ≤ length self.bytes.now }
+        ensures { (result.bytes ≡ self.entry.bytes) × (result.at ≡ self.entry.at + bytes) }
+    {
+        RecordReader {
+            bytes: self.bytes,
+            at: self.at + bytes,
         }
     }
+
+    /// The length of the body of the step field at the reader's place.
+    pub fn head(self) -> Result<usize, Fault>
+        ensures says { says_at self.entry.at (λ n. n) result ≡ step_head self.entry.at (drop self.entry.at self.entry.bytes.now) }
+        ensures fits { IfOk result (λ n. 3 + n ≤ length (drop self.entry.at self.entry.bytes.now)) }
+    {
+        step_head(&self.bytes[self.at..])
+    }
+
+    /// The step at the reader's place, behind which more may follow.
+    pub fn step(self, items: &mut [Item; MOST_ITEMS]) -> Result<StepRead, Fault>
+        ensures says { says_at self.entry.at (step_read items.new) result ≡ read_step self.entry.at (drop self.entry.at self.entry.bytes.now) }
+        ensures fits { IfOk result (StepFits (length (drop self.entry.at self.entry.bytes.now)) items.new) }
+    {
+        let bytes = 3 + self.head()?;
+        let items = read_items(&self.bytes[self.at + 3..self.at + bytes], items)?;
+        Ok(StepRead { items, bytes })
+    }
+}
+
+/// The step at an offset of a record, read through a reader that is moved there.
+pub fn step_at(record: &[u8], at: usize, items: &mut [Item; MOST_ITEMS]) -> Result<StepRead, Fault>
+    requires { at ≤ length «record».now }
+    ensures says { says_at at (step_read items.new) result ≡ read_step at (drop at «record».now) }
+    ensures fits { IfOk result (StepFits (length (drop at «record».now)) items.new) }
+{
+    RecordReader::new(record).past(at).step(items)
 }

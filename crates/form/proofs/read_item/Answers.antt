@@ -1,86 +1,47 @@
 -- `read_item`: each answer is what the definition gives after the tests so far.
-use mathlib.Core.Path.{sym, ◌∙◌}
 use native.Mathlib.Omega.{arith}
-use Rattle.form.proofs.ItemForms.{header_short, header_long, header_good, item_cut, item_untagged, item_sized, item_low, item_one, item_two}
+use mathlib.Core.Path.{◌≡◌, ap, ◌∙◌}
+use Rattle.form.specs.declared.Item.{Item}
+use Rattle.form.specs.Form.{one_tag, two_tag}
+use Rattle.form.proofs.ItemForms.{passed_on, item_cut, item_untagged, item_sized, item_low, item_good}
 use Rattle.form.proofs.read_item.Goals as goal
+use Rattle.form.proofs.read_item.Goals.{in-33-len1, in-34-len2}
 
-pub returns-then-s-lt3 : goal.returns-then-s-lt3
-returns-then-s-lt3 c =
-    record {
-      says = λ at. item_cut at _ _ (header_short at _ c.if-s-lt3.true);
-      fits = tt;
-    }
+pub returns-in_err-field-clause-says : goal.returns-in_err-field-clause-says
+returns-in_err-field-clause-says c at =
+    passed_on at _ c.from_residual.result c.in_err-field.field-0.0 c.from_residual.ensures.1 ∙ item_cut at _ _ c.args.s.now (c.in_err-field.ensures.says at)
 
-pub overflow_cast-len : goal.overflow_cast-len
-overflow_cast-len c =
-    omega (arith, c.type_inv.s 1)
+pub returns-in_default-clause-says : goal.returns-in_default-clause-says
+returns-in_default-clause-says c at = item_untagged at _ c.args.s.now _ _ (c.in_ok-field.ensures.says at) c.in_default.is-0.0.1 c.in_default.is-0.1
 
-pub overflow_mul-len : goal.overflow_mul-len
-overflow_mul-len c =
-    omega (arith, c.type_inv.s 1)
+pub returns-in-33-default-clause-says : goal.returns-in-33-default-clause-says
+returns-in-33-default-clause-says c at = item_sized at _ c.args.s.now _ _ (c.in_ok-field.ensures.says at) one_tag c.in-33-default.is-0 (λ e. omega arith)
 
-pub overflow_cast-len-2 : goal.overflow_cast-len-2
-overflow_cast-len-2 c =
-    omega (arith, c.type_inv.s 2)
+pub returns-in-33-default-2-clause-says : goal.returns-in-33-default-2-clause-says
+returns-in-33-default-2-clause-says c at = item_sized at _ c.args.s.now _ _ (c.in_ok-field.ensures.says at) one_tag c.in-33-default.is-0 (λ e. omega arith)
 
-pub overflow_add-len : goal.overflow_add-len
-overflow_add-len c =
-    omega (arith, c.type_inv.s 1, c.type_inv.s 2)
+pub returns-in-33-default-3-clause-says : goal.returns-in-33-default-3-clause-says
+returns-in-33-default-3-clause-says c at = item_sized at _ c.args.s.now _ _ (c.in_ok-field.ensures.says at) two_tag c.in-33-default.is-0 (λ e. omega arith)
 
-pub returns-then-s-len : goal.returns-then-s-len
-returns-then-s-len c =
-    record {
-      says = λ at. item_cut at _ _ (header_long at _ (omega arith) c.if-s-len.true);
-      fits = tt;
-    }
+pub returns-in-33-default-4-clause-says : goal.returns-in-33-default-4-clause-says
+returns-in-33-default-4-clause-says c at = item_sized at _ c.args.s.now _ _ (c.in_ok-field.ensures.says at) two_tag c.in-33-default.is-0 (λ e. omega arith)
 
-pub returns-then-count-eq0 : goal.returns-then-count-eq0
-returns-then-count-eq0 c =
-    record {
-      says = λ at. item_untagged at _ _ (header_good at _ (omega arith) (omega arith)) (sym c.action_count-count.ensures ∙ c.if-count-eq0.true);
-      fits = tt;
-    }
+-- the first action, where it is known which item was taken
+first_of : (x y : Item) → x ≡ y → x.first ≡ y.first
+first_of x y e = ap (λ (z : Item). z.first) e
 
-pub returns-then-len-count : goal.returns-then-len-count
-returns-then-len-count c =
-    record {
-      says = λ at. item_sized at _ _ (header_good at _ (omega arith) (omega arith)) _ c.action_count-count.ensures c.if-count-eq0.false c.if-len-count.true;
-      fits = tt;
-    }
+pub returns-then-from-least-clause-says : goal.returns-then-from-least-clause-says
+returns-then-from-least-clause-says c at =
+    let front = c.in_ok-field.ensures.says at in
+    elim c.match-field.branch [
+      | in-33-len1 w ↦ item_low at _ c.args.s.now _ _ front one_tag w.in-33-len1.is-0 (omega arith) (omega (arith, first_of _ _ w.item-is))
+      | in-34-len2 w ↦ item_low at _ c.args.s.now _ _ front two_tag w.in-34-len2.is-0 (omega arith) (omega (arith, first_of _ _ w.item-is))
+    ]
 
-pub overflow_cast-first : goal.overflow_cast-first
-overflow_cast-first c =
-    omega (arith, c.type_inv.s 3)
-
-pub returns-then-first-least : goal.returns-then-first-least
-returns-then-first-least c =
-    record {
-      says = λ at. item_low at _ _ (header_good at _ (omega arith) (omega arith)) _ c.action_count-count.ensures c.if-count-eq0.false c.if-len-count.false c.if-first-least.true;
-      fits = tt;
-    }
-
-pub overflow_cast-result : goal.overflow_cast-result
-overflow_cast-result c =
-    omega (arith, c.type_inv.s 3)
-
-pub returns-then-count-eq1 : goal.returns-then-count-eq1
-returns-then-count-eq1 c =
-    record {
-      says = λ at. item_one at _ _ (header_good at _ (omega arith) (omega arith)) _ c.action_count-count.ensures c.if-count-eq0.false c.if-len-count.false c.if-first-least.false c.if-count-eq1.true;
-      fits = omega (arith, c.type_inv.s 3);
-    }
-
-pub overflow_cast-result-2 : goal.overflow_cast-result-2
-overflow_cast-result-2 c =
-    omega (arith, c.type_inv.s 3)
-
-pub overflow_cast-result-3 : goal.overflow_cast-result-3
-overflow_cast-result-3 c =
-    omega (arith, c.type_inv.s 4)
-
-pub returns : goal.returns
-returns c =
-    record {
-      says = λ at. item_two at _ _ (header_good at _ (omega arith) (omega arith)) _ c.action_count-count.ensures c.if-count-eq0.false c.if-len-count.false c.if-first-least.false c.if-count-eq1.false (omega (arith, c.type_inv.s 4));
-      fits = omega (arith, c.type_inv.s 3);
-    }
+pub returns-clause-says : goal.returns-clause-says
+returns-clause-says c at =
+    let front = c.in_ok-field.ensures.says at in
+    elim c.match-field.branch [
+      | in-33-len1 w ↦ rw w.item-is (item_good at _ c.args.s.now _ _ front one_tag w.in-33-len1.is-0 (omega arith) (omega (arith, first_of _ _ w.item-is)))
+      | in-34-len2 w ↦ rw w.item-is (item_good at _ c.args.s.now _ _ front two_tag w.in-34-len2.is-0 (omega arith) (omega (arith, first_of _ _ w.item-is)))
+    ]

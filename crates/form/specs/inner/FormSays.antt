@@ -1,58 +1,49 @@
--- What the answers of the code that reads a step say, case by case: 01's number and values. The refusals of step form carry the step's offset.
-use Rattle.std.specs.Prelude.{ℕ, ◌+◌, ◌≤◌, ◌<◌, List, [], ◌∷◌, cond, length, get_or, take, eqb, leb}
+-- What the answers of the code that reads a step say: 01's number and values. The refusals of step form carry the step's offset.
+use Rattle.std.specs.Prelude.{ℕ, ◌≤◌, List, Option, None, Some, Result, Ok, Err, length, map, take, eqb, leb}
 use Rattle.field.specs.Refusals.{wrong_tag, wrong_length}
 use Rattle.field.specs.Answer.{Answer, good, refused, ◌>>◌, check}
-use Rattle.field.specs.Field.{tag_of, length_of}
-use Rattle.algebra.specs.Item.{Item}
-use Rattle.net.specs.Tables.{item_of}
-use Rattle.form.specs.declared.ItemAnswer.{ItemAnswer}
-use Rattle.form.specs.declared.ItemAnswer.TheVariants as item_answer
-use Rattle.form.specs.declared.ItemsAnswer.{ItemsAnswer}
-use Rattle.form.specs.declared.ItemsAnswer.TheVariants as items_answer
-use Rattle.form.specs.declared.HeadAnswer.{HeadAnswer}
-use Rattle.form.specs.declared.HeadAnswer.TheVariants as head_answer
-use Rattle.form.specs.declared.StepAnswer.{StepAnswer}
-use Rattle.form.specs.declared.StepAnswer.TheVariants as step_answer
-use Rattle.form.specs.Form.{ItemRead, StepRead, check_header}
+use Rattle.field.specs.Field.{tag_of, length_of, body_of}
+use Rattle.field.specs.Says.{number_of}
+use Rattle.field.specs.declared.Fault.{Fault}
+use Rattle.algebra.specs.Item.{Item, one, two}
+use Rattle.form.specs.declared.Header.{Header}
+use Rattle.form.specs.declared.Item as code
+use Rattle.form.specs.declared.ItemRead as code_read
+use Rattle.form.specs.Form.{ItemRead, check_header}
 
--- The actions of an item with this tag; none where it is no item's.
-abbrev pub tag_count : ℕ → ℕ
-tag_count t = cond (eqb t 0x21) 1 (cond (eqb t 0x22) 2 0)
+-- The answer at a step's offset, where `f` tells what a value stands for.
+abbrev pub says_at : {A B : Type 0} → ℕ → (A → B) → Result A Fault → Answer B
+says_at at f (Ok x) = good (f x)
+says_at at f (Err e) = refused (number_of e) at
 
-abbrev pub item_says : ℕ → ItemAnswer → Answer ItemRead
-item_says at (item_answer.Refused n) = refused n at
-item_says at (item_answer.Item i j bytes) = good (record { item = item_of i j; bytes = bytes })
+-- "21 hex with one action, or 22 hex with two, the a side first"
+abbrev pub actions : ℕ → Option ℕ → Item
+actions i None = one i
+actions i (Some j) = two i j
 
-abbrev pub item_number : ItemAnswer → ℕ
-item_number (item_answer.Refused n) = n
-item_number (item_answer.Item i j bytes) = 0
+abbrev pub code_item : code.Item → Item
+code_item i = actions i.first i.second
 
--- An item's first action rises and is a byte, and the item takes some of the bytes that are left.
-abbrev pub ItemFits : ℕ → ℕ → ItemAnswer → Type 0
-ItemFits least left (item_answer.Refused n) = Unit {0}
-ItemFits least left (item_answer.Item i j bytes) = (least ≤ i) × (i ≤ 255) × (1 ≤ bytes) × (bytes ≤ left)
+abbrev pub item_read : code_read.ItemRead → ItemRead
+item_read r = record { item = code_item r.item; bytes = r.bytes }
 
--- The items of a list of first actions and one of second actions.
-unfoldable pub paired : List ℕ → List ℕ → List Item
-paired [] js = []
-paired (i ∷ is) [] = []
-paired (i ∷ is) (j ∷ js) = item_of i j ∷ paired is js
+-- The items at the front of a list.
+abbrev pub items_in : ℕ → List code.Item → List Item
+items_in n items = take n (map code_item items)
 
-abbrev pub items_in : ℕ → List ℕ → List ℕ → List Item
-items_in n firsts seconds = paired (take n firsts) (take n seconds)
+-- There are no more items than 256, and the list holds them.
+abbrev pub ItemsFit : List code.Item → ℕ → Type 0
+ItemsFit items n = (n ≤ 256) × (n ≤ length items)
 
-abbrev pub items_say : ℕ → ItemsAnswer → List ℕ → List ℕ → Answer (List Item)
-items_say at (items_answer.Refused n) firsts seconds = refused n at
-items_say at (items_answer.Items n) firsts seconds = good (items_in n firsts seconds)
+-- The tag and the body of the field at the front of the bytes.
+abbrev pub header_read : Header → ℕ × List ℕ
+header_read h = (h.tag, h.body.now)
 
--- So many first actions are bytes.
-abbrev pub Bytes : ℕ → List ℕ → Type 0
-Bytes n firsts = (k : ℕ) → k < n → get_or firsts k 0 < 256
-
--- There are no more items than 256, the two lists hold them, and their first actions are bytes.
-abbrev pub ItemsFit : ItemsAnswer → List ℕ → List ℕ → Type 0
-ItemsFit (items_answer.Refused n) firsts seconds = Unit {0}
-ItemsFit (items_answer.Items n) firsts seconds = (n ≤ 256) × (n ≤ length firsts) × (n ≤ length seconds) × Bytes n firsts
+unfoldable pub header : ℕ → List ℕ → Answer (ℕ × List ℕ)
+unfolding check_header
+header at s = do
+  check_header at s
+  good (tag_of s, body_of s)
 
 -- "a step's own header before them"; "a step of no items is not" good. The answer is the length of the body.
 unfoldable pub step_head : ℕ → List ℕ → Answer ℕ
@@ -62,21 +53,3 @@ step_head at s = do
   check (eqb (tag_of s) 0x20) wrong_tag at
   check (leb 1 (length_of s)) wrong_length at
   good (length_of s)
-
-abbrev pub head_says : ℕ → HeadAnswer → Answer ℕ
-head_says at (head_answer.Refused n) = refused n at
-head_says at (head_answer.Body n) = good n
-
--- The body lies in the bytes.
-abbrev pub HeadFits : ℕ → HeadAnswer → Type 0
-HeadFits left (head_answer.Refused n) = Unit {0}
-HeadFits left (head_answer.Body n) = 3 + n ≤ left
-
-abbrev pub step_says : ℕ → StepAnswer → List ℕ → List ℕ → Answer StepRead
-step_says at (step_answer.Refused n) firsts seconds = refused n at
-step_says at (step_answer.Step n bytes) firsts seconds = good (record { items = items_in n firsts seconds; bytes = bytes })
-
--- The step lies in the bytes, and the two lists hold its items.
-abbrev pub StepFits : ℕ → StepAnswer → List ℕ → List ℕ → Type 0
-StepFits left (step_answer.Refused n) firsts seconds = Unit {0}
-StepFits left (step_answer.Step n bytes) firsts seconds = (1 ≤ bytes) × (bytes ≤ left) × (n ≤ 256) × (n ≤ length firsts) × (n ≤ length seconds) × Bytes n firsts

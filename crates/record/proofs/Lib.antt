@@ -1,3 +1,0 @@
-pub mod HeadSaid
-pub mod StepThere
-pub mod TwoClauses
