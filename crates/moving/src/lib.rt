@@ -3,14 +3,14 @@
 // the same number before, so that a pass which puts that number there leaves the marking as it was.
 #![tactic(auto)]
 
-ghost use Rattle.std.specs.Prelude.{◌≡◌, ℕ, ◌<◌, ◌≤◌, length, get_or, not, position, All, MatchResult, OnOk};
+ghost use Rattle.std.specs.Prelude.{◌≡◌, true, ℕ, ◌<◌, ◌≤◌, length, get_or, not, position, All, MatchResult, OnOk};
 ghost use Rattle.algebra.specs.Firing.{count};
 ghost use Rattle.net.specs.declared.Side.TheVariants.{Inputs, Outputs};
 ghost use Rattle.moving.specs.inner.InOrder.{InOrder};
 ghost use Rattle.moving.specs.inner.Moving.{side_of, sides, hold, filled, shifts_each, in_one, moves};
 
 use field::{Fault, Refusal};
-use net::Side;
+use net::{Lent, Row, Side};
 
 mod places;
 
@@ -25,7 +25,23 @@ pub struct Net<'a> {
 }
 
 impl<'a> Net<'a> {
+    ghost use Rattle.net.specs.Check.{is_net};
+    ghost use Rattle.net.specs.Lent.{tables_lent};
     ghost use Rattle.moving.specs.inner.Moves.{Moves};
+
+    /// The net that lent tables are which passed check 30.
+    pub fn lent(lent: &Lent<'a>) -> Self
+        requires { is_net (tables_lent lent.now) ≡ true }
+        ensures tables { (result.rows ≡ lent.now.rows) × (result.arcs ≡ lent.now.arcs) }
+        ensures counts { (result.places ≡ lent.now.places) × (result.transitions ≡ lent.now.transitions) }
+    {
+        Net {
+            rows: lent.rows,
+            arcs: lent.arcs,
+            places: lent.places,
+            transitions: lent.transitions,
+        }
+    }
 
     /// The places on one side of transition t.
     pub fn side(self, t: usize, side: Side) -> &'a [u16]
@@ -33,11 +49,12 @@ impl<'a> Net<'a> {
         ensures value { result.now ≡ side_of side self.entry.rows.now self.entry.arcs.now t }
         ensures below { All (λ p. p < self.entry.places) result.now }
     {
-        let start = net::number(self.rows, t, 3);
-        let middle = start + net::number(self.rows, t, 4);
+        let row = Row::at(self.rows, t);
+        let start = usize::from(row.start);
+        let middle = start + usize::from(row.inputs);
         match side {
             Side::Inputs => &self.arcs[start..middle],
-            Side::Outputs => &self.arcs[middle..middle + net::number(self.rows, t, 5)],
+            Side::Outputs => &self.arcs[middle..middle + usize::from(row.outputs)],
         }
     }
 
