@@ -1,9 +1,9 @@
 -- The answers of `move_tokens`, each with the marking that goes with it: where it refuses, the marking is restored.
 -- Each is what `moves` gives after the tests so far; a test of all items is the test of their places in_one.
-use Prim.Native.Nat.{ℕ, suc, ◌≤◌, ◌<◌}
+use Prim.Native.Nat.{ℕ, ◌≤◌, ◌<◌}
 use mathlib.Core.Path.{◌≡◌, refl, sym, ap, ap₂, ◌∙◌}
 use mathlib.Core.List.{List, [], ◌∷◌}
-use mathlib.Core.Bool.{Bool, true, false, not, cond}
+use mathlib.Core.Bool.{true, false, not, cond}
 use native.Mathlib.Omega.{arith}
 use lib.ListN.{length, get_or, length-map}
 use borrow.Author.Tests.{le-leb, lt-leb, ltb-true, ltb-false}

@@ -10,13 +10,12 @@ use native.Mathlib.Omega.{arith}
 use lib.ListN.{length, get_or, set, take, drop, drop_of_length-le}
 use lib.Seq.{drop-cons, get_or-set_other}
 use lib.Dec.{eqb}
-use Rattle.field.specs.Lists.{all}
 use Rattle.algebra.specs.Firing.{count}
 use Rattle.algebra.proofs.Enough.{count_here, count_cons, count_append}
 use Rattle.net.specs.inner.Chains.{in_row}
 use Rattle.net.specs.declared.Side.{Side}
 use Rattle.net.specs.declared.Side.TheVariants.{Inputs, Outputs}
-use Rattle.moving.specs.inner.Moving.{side_of, sides, hold, holds_each, filled, shifts, shifts_each, in_one}
+use Rattle.moving.specs.inner.Moving.{side_of, sides, filled, shifts, shifts_each, in_one}
 
 pub list_next : (l : List ℕ) (i p : ℕ) → i < length l → p ≡ get_or l i 0 → drop i l ≡ p ∷ drop (i + 1) l
 list_next l i p h e = rw (add-one, drop-cons l i 0, e)

@@ -6,7 +6,6 @@ use mathlib.Core.List.{List, [], ◌∷◌, map}
 use mathlib.Core.Bool.{Bool, true}
 use native.Mathlib.Omega.{arith}
 use borrow.Author.Tests.{eqb-true, eqb-false}
-use lib.ListN.{length, get_or}
 use lib.Dec.{T, eqb, leb, ltb, ltb→lt}
 use Rattle.std.specs.Prelude.{All}
 use Rattle.field.specs.Lists.{all}

@@ -6,7 +6,7 @@
 ghost use Rattle.std.specs.Prelude.{◌≡◌, true, ℕ, ◌<◌, ◌≤◌, length, get_or, not, position, All, MatchResult, OnOk};
 ghost use Rattle.algebra.specs.Firing.{count};
 ghost use Rattle.net.specs.declared.Side.TheVariants.{Inputs, Outputs};
-ghost use Rattle.moving.specs.inner.InOrder.{InOrder};
+ghost use Rattle.moving.specs.inner.InOrder.{InOrder, transitions_within};
 ghost use Rattle.moving.specs.inner.Moving.{side_of, sides, hold, filled, shifts_each, in_one, moves};
 
 use field::{Fault, Refusal};
@@ -26,6 +26,7 @@ pub struct Net<'a> {
 
 impl<'a> Net<'a> {
     ghost use Rattle.net.specs.Check.{is_net};
+    ghost use Rattle.net.specs.Tables.{transitions_in};
     ghost use Rattle.net.specs.Lent.{tables_lent};
     ghost use Rattle.moving.specs.inner.Moves.{Moves};
 
@@ -34,6 +35,7 @@ impl<'a> Net<'a> {
         requires { is_net (tables_lent lent.now) ≡ true }
         ensures tables { (result.rows ≡ lent.now.rows) × (result.arcs ≡ lent.now.arcs) }
         ensures counts { (result.places ≡ lent.now.places) × (result.transitions ≡ lent.now.transitions) }
+        ensures transitions { transitions_within result.rows.now result.arcs.now result.transitions ≡ transitions_in (tables_lent lent.now) }
     {
         Net {
             rows: lent.rows,

@@ -1,5 +1,5 @@
 -- Tokens taken and put place by place, as the code does it. That this is the firing of 01 is shown of it.
-use Rattle.std.specs.Prelude.{ℕ, suc, ◌+◌, ◌<◌, List, [], ◌∷◌, ◌++◌, map, Bool, true, cond, ◌&&◌, length, get_or, slice_index, set, take, drop, ◌==◌, eqb, leb}
+use Rattle.std.specs.Prelude.{ℕ, suc, ◌+◌, List, [], ◌∷◌, ◌++◌, map, Bool, true, cond, ◌&&◌, length, get_or, slice_index, set, take, drop, ◌==◌, eqb, leb}
 use Rattle.std.specs.List.{list_all}
 use Rattle.field.specs.Refusals.{input_empty, input_shared, two_tokens}
 use Rattle.field.specs.Answer.{Answer, good, ◌>>◌, check}

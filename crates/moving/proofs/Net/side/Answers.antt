@@ -21,7 +21,7 @@ pub returns-in-Outputs : goal.returns-in-Outputs
 returns-in-Outputs c =
     let s = c.args.self in
     let same = side_outputs s.rows.now s.arcs.now c.args.t _ _ (c.from-start.ensures ∙ ap (λ (r : Row). r.start) c.at-row.ensures) (c.from.ensures ∙ ap (λ (r : Row). r.inputs) c.at-row.ensures)
-        _ (c.from-in-Outputs.ensures ∙ ap (λ (r : Row). r.outputs) c.at-row.ensures) in
+    _ (c.from-in-Outputs.ensures ∙ ap (λ (r : Row). r.outputs) c.at-row.ensures) in
     record {
       value = same ∙ ap (λ (x : Side). side_of x s.rows.now s.arcs.now c.args.t) (sym c.in-Outputs.is);
       below = subst (All (λ p. p < s.places)) (sym same) (below_at s.rows.now s.arcs.now s.transitions s.places s.in_order c.args.t c.requires Outputs);
