@@ -21,7 +21,8 @@ pub struct Marked<'a> {
 
 impl<'a> Marked<'a> {
     ghost use Rattle.algebra.specs.Firing.{marked, enabled_from};
-    ghost use Rattle.moving.specs.inner.InOrder.{transition_in, transitions_within};
+    ghost use Rattle.moving.specs.inner.InOrder.{transition_in};
+    ghost use Rattle.moving.specs.Net.{transitions_of};
 
     // All input places of transition t are marked.
     fn is_enabled(self, t: usize) -> bool
@@ -41,16 +42,16 @@ impl<'a> Marked<'a> {
 
     /// Whether so much room is enough for the enabled transitions. They are counted only where it is not enough for all transitions.
     pub fn fits(self, room: usize) -> bool
-        ensures { result ≡ leb (length (enabled_from 0 self.entry.tokens.now (transitions_within self.entry.net.rows.now self.entry.net.arcs.now self.entry.net.transitions))) room }
+        ensures { result ≡ leb (length (enabled_from 0 self.entry.tokens.now (transitions_of self.entry.net))) room }
     {
         self.net.transitions <= room || self.count() <= room
     }
 
     /// Their numbers, from the front of `out` on, which has room for them; and how many they are.
     pub fn write(self, out: &mut [u16]) -> usize
-        requires { length (enabled_from 0 self.tokens.now (transitions_within self.net.rows.now self.net.arcs.now self.net.transitions)) ≤ length out.old }
-        ensures many { result ≡ length (enabled_from 0 self.entry.tokens.now (transitions_within self.entry.net.rows.now self.entry.net.arcs.now self.entry.net.transitions)) }
-        ensures list { out.new ≡ sets out.old 0 (enabled_from 0 self.entry.tokens.now (transitions_within self.entry.net.rows.now self.entry.net.arcs.now self.entry.net.transitions)) }
+        requires { length (enabled_from 0 self.tokens.now (transitions_of self.net)) ≤ length out.old }
+        ensures many { result ≡ length (enabled_from 0 self.entry.tokens.now (transitions_of self.entry.net)) }
+        ensures list { out.new ≡ sets out.old 0 (enabled_from 0 self.entry.tokens.now (transitions_of self.entry.net)) }
     {
         let mut many = 0;
         for t in 0..self.net.transitions {

@@ -102,10 +102,6 @@ module _ (rows arcs ts : List ℕ) (side : Side) (i t : ℕ) (h : i < length ts)
         ∙ a q z
 
 module _ (rows arcs ts : List ℕ) (side : Side) (i : ℕ) (h : length ts ≤ i) where
-  pub shifting_end : (from to : ℕ) (m : List ℕ) (n : ℕ) → n ≡ i + shifts_each from to m (sides side rows arcs (drop i ts)) → i ≡ n
-  unfolding shifts_each
-  shifting_end from to m n inv = sym (inv ∙ rw (drop_of_length-le ts h, add-zero i))
-
   pub filling_end : (tokens : ℕ) (m : List ℕ) → filled tokens m (in_one (sides side rows arcs (drop i ts))) ≡ m
   unfolding in_one filled
   filling_end tokens m = rw (drop_of_length-le ts h)

@@ -6,8 +6,8 @@
 ghost use Rattle.std.specs.Prelude.{◌≡◌, true, ℕ, ◌<◌, ◌≤◌, length, get_or, not, position, All, MatchResult, OnOk};
 ghost use Rattle.algebra.specs.Firing.{count};
 ghost use Rattle.net.specs.declared.Side.TheVariants.{Inputs, Outputs};
-ghost use Rattle.moving.specs.inner.InOrder.{InOrder, transitions_within};
-ghost use Rattle.moving.specs.inner.Moving.{side_of, sides, hold, filled, shifts_each, in_one, moves};
+ghost use Rattle.moving.specs.inner.InOrder.{InOrder};
+ghost use Rattle.moving.specs.inner.Moving.{hold, filled, shifts_each, in_one, moves};
 
 use field::{Fault, Refusal};
 use net::{Lent, Row, Side};
@@ -29,13 +29,14 @@ impl<'a> Net<'a> {
     ghost use Rattle.net.specs.Tables.{transitions_in};
     ghost use Rattle.net.specs.Lent.{tables_lent};
     ghost use Rattle.moving.specs.inner.Moves.{Moves};
+    ghost use Rattle.moving.specs.Net.{transitions_of, places_of, item_places};
 
     /// The net that lent tables are which passed check 30.
     pub fn lent(lent: &Lent<'a>) -> Self
         requires { is_net (tables_lent lent.now) ≡ true }
         ensures tables { (result.rows ≡ lent.now.rows) × (result.arcs ≡ lent.now.arcs) }
         ensures counts { (result.places ≡ lent.now.places) × (result.transitions ≡ lent.now.transitions) }
-        ensures transitions { transitions_within result.rows.now result.arcs.now result.transitions ≡ transitions_in (tables_lent lent.now) }
+        ensures transitions { transitions_of result ≡ transitions_in (tables_lent lent.now) }
     {
         Net {
             rows: lent.rows,
@@ -48,7 +49,7 @@ impl<'a> Net<'a> {
     /// The places on one side of transition t.
     pub fn side(self, t: usize, side: Side) -> &'a [u16]
         requires { t < self.transitions }
-        ensures value { result.now ≡ side_of side self.entry.rows.now self.entry.arcs.now t }
+        ensures value { result.now ≡ places_of self.entry side t }
         ensures below { All (λ p. p < self.entry.places) result.now }
     {
         let row = Row::at(self.rows, t);
@@ -64,7 +65,7 @@ impl<'a> Net<'a> {
     pub fn holds(self, marking: &[u8], t: usize, side: Side, tokens: u8) -> bool
         requires t_below { t < self.transitions }
         requires marking_length { length marking.now ≡ self.places }
-        ensures { result ≡ hold tokens marking.now (side_of side self.entry.rows.now self.entry.arcs.now t) }
+        ensures { result ≡ hold tokens marking.now (places_of self.entry side t) }
     {
         places::all_hold(marking, self.side(t, side), tokens)
     }
@@ -73,7 +74,7 @@ impl<'a> Net<'a> {
     fn first_unlike(self, marking: &[u8], ts: &[u16], side: Side, tokens: u8) -> Option<usize>
         requires marking_length { length marking.now ≡ self.places }
         requires ts_below { All (λ t. t < self.transitions) ts.now }
-        ensures { result ≡ position (λ t. not (hold tokens marking.now (side_of side self.entry.rows.now self.entry.arcs.now t))) ts.now }
+        ensures { result ≡ position (λ t. not (hold tokens marking.now (places_of self.entry side t))) ts.now }
     {
         ts.iter()
             .position(|&t| !self.holds(marking, usize::from(t), side, tokens))
@@ -83,7 +84,7 @@ impl<'a> Net<'a> {
     fn fill(self, marking: &mut [u8], ts: &[u16], side: Side, tokens: u8)
         requires marking_length { length marking.old ≡ self.places }
         requires ts_below { All (λ t. t < self.transitions) ts.now }
-        ensures { marking.new ≡ filled tokens marking.old (in_one (sides side self.entry.rows.now self.entry.arcs.now ts.now)) }
+        ensures { marking.new ≡ filled tokens marking.old (in_one (item_places self.entry side ts.now)) }
     {
         for &t in ts {
             places::fill(marking, self.side(usize::from(t), side), tokens);
@@ -101,9 +102,9 @@ impl<'a> Net<'a> {
     ) -> Result<(), usize>
         requires marking_length { length marking.old ≡ self.places }
         requires ts_below { All (λ t. t < self.transitions) ts.now }
-        ensures value { MatchResult result (λ u. length ts.now ≤ shifts_each from to marking.old (sides side self.entry.rows.now self.entry.arcs.now ts.now)) (λ i. (i ≡ shifts_each from to marking.old (sides side self.entry.rows.now self.entry.arcs.now ts.now)) × (i < length ts.now)) }
-        ensures marking_after { OnOk result (marking.new ≡ filled to marking.old (in_one (sides side self.entry.rows.now self.entry.arcs.now ts.now))) }
-        ensures by_index { (q : ℕ) → count q (in_one (sides side self.entry.rows.now self.entry.arcs.now ts.now)) ≡ 0 → get_or marking.new q 0 ≡ get_or marking.old q 0 }
+        ensures value { MatchResult result (λ u. length ts.now ≤ shifts_each from to marking.old (item_places self.entry side ts.now)) (λ i. (i ≡ shifts_each from to marking.old (item_places self.entry side ts.now)) × (i < length ts.now)) }
+        ensures marking_after { OnOk result (marking.new ≡ filled to marking.old (in_one (item_places self.entry side ts.now))) }
+        ensures by_index { (q : ℕ) → count q (in_one (item_places self.entry side ts.now)) ≡ 0 → get_or marking.new q 0 ≡ get_or marking.old q 0 }
     {
         for (i, &t) in ts.iter().enumerate() {
             if !places::shift(marking, self.side(usize::from(t), side), from, to) {
@@ -117,7 +118,7 @@ impl<'a> Net<'a> {
     pub fn move_tokens(self, marking: &mut [u8], ts: &[u16]) -> Result<(), Refusal>
         requires marking_length { length marking.old ≡ self.places }
         requires ts_below { All (λ t. t < self.transitions) ts.now }
-        ensures { Moves result marking.old marking.new (moves marking.old (sides Inputs self.entry.rows.now self.entry.arcs.now ts.now) (sides Outputs self.entry.rows.now self.entry.arcs.now ts.now)) }
+        ensures { Moves result marking.old marking.new (moves marking.old (item_places self.entry Inputs ts.now) (item_places self.entry Outputs ts.now)) }
     {
         if let Some(item) = self.first_unlike(marking, ts, Side::Inputs, 1) {
             return Err(Fault::InputEmpty.at(item));

@@ -6,7 +6,7 @@ ghost use Rattle.std.specs.Prelude.{◌≡◌, true, ◌+◌, ◌≤◌, length,
 ghost use Rattle.field.specs.Lists.{all};
 ghost use Rattle.algebra.specs.Net.{Net};
 ghost use Rattle.form.specs.Form.{read_steps};
-ghost use Rattle.moving.specs.inner.InOrder.{transitions_within};
+ghost use Rattle.moving.specs.Net.{transitions_of};
 ghost use Rattle.run.specs.Run.{run};
 ghost use Rattle.run.specs.Says.{ran_says};
 
@@ -59,7 +59,7 @@ pub fn run_record(
     requires marking_length { length marking.old ≡ net.places }
     requires marking_value { all (λ x. leb x 1) marking.old ≡ true }
     requires exits_from_in_bounds { exits_from ≤ length marking.old }
-    ensures { (N : Net) → N.transitions ≡ transitions_within net.entry.rows.now net.entry.arcs.now net.entry.transitions → N.entries + N.internals ≡ exits_from → (ran_says result ≡ (run N 0 marking.old (read_steps 0 0 «record».now)).verdict) × (marking.new ≡ (run N 0 marking.old (read_steps 0 0 «record».now)).marking) }
+    ensures { (N : Net) → N.transitions ≡ transitions_of net.entry → N.entries + N.internals ≡ exits_from → (ran_says result ≡ (run N 0 marking.old (read_steps 0 0 «record».now)).verdict) × (marking.new ≡ (run N 0 marking.old (read_steps 0 0 «record».now)).marking) }
 {
     let mut index = net::Index::new();
     net::index_by_first(net.rows, net.transitions, &mut index);

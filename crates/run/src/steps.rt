@@ -3,7 +3,7 @@
 ghost use Rattle.std.specs.Prelude.{◌≡◌, true, ◌≤◌, length, drop, leb, MatchResult};
 ghost use Rattle.field.specs.Lists.{all};
 ghost use Rattle.form.specs.Form.{read_steps};
-ghost use Rattle.moving.specs.inner.InOrder.{transitions_within};
+ghost use Rattle.moving.specs.Net.{transitions_of};
 ghost use Rattle.run.specs.inner.Steps.{take_step};
 ghost use Rattle.run.specs.inner.Ends.{StepFired, StepRefused, Ends};
 
@@ -32,7 +32,7 @@ fn take_step(
     requires marking_length { length marking.old ≡ indexed.net.places }
     requires marking_value { all (λ x. leb x 1) marking.old ≡ true }
     requires at_in_bounds { at ≤ length «record».now }
-    ensures { MatchResult result (StepFired (length (drop at «record».now)) (take_step (transitions_within indexed.entry.net.rows.now indexed.entry.net.arcs.now indexed.entry.net.transitions) marking.old at (drop at «record».now)) marking.new) (StepRefused (take_step (transitions_within indexed.entry.net.rows.now indexed.entry.net.arcs.now indexed.entry.net.transitions) marking.old at (drop at «record».now)) marking.old marking.new) }
+    ensures { MatchResult result (StepFired (length (drop at «record».now)) (take_step (transitions_of indexed.entry.net) marking.old at (drop at «record».now)) marking.new) (StepRefused (take_step (transitions_of indexed.entry.net) marking.old at (drop at «record».now)) marking.old marking.new) }
 {
     match step_at(record, at, items) {
         Err(fault) => Err(fault.at(at)),

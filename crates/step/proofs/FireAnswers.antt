@@ -6,7 +6,7 @@ use mathlib.Core.List.{List, [], map}
 use mathlib.Core.Bool.{true}
 use lib.ListN.{length, take}
 use lib.Dec.{leb}
-use Rattle.std.specs.Prelude.{All, Result, Err}
+use Rattle.std.specs.Prelude.{All, Result, Ok, Err, MatchResult, is_ok}
 use Rattle.std.proofs.lemmas.List.{take-map}
 use Rattle.field.specs.Answer.{Answer, good, ◌>>=◌, ◌>>◌, check}
 use Rattle.field.specs.Lists.{all}
@@ -54,3 +54,8 @@ pub step_fired : (net : List Transition) (m s : List ℕ) (items : List code.Ite
     → (r : Result (Unit {0}) Refusal) (m' : List ℕ) → Moves r m m' (fire_items net m (map code_item (take count items))) → Moves r m m' (read_and_fire net m s)
 step_fired net m s items count read r m' moves =
     subst (λ (a : Answer (List Item)). Moves r m m' (a >>= fire_items net m)) (ap good (sym (take-map code_item count items)) ∙ read) moves
+
+-- What was read where the reading is good, whatever a refusal is turned into.
+pub good_before : {E : Type 0} (D : Type 0) (r : Result ℕ E) (n : ℕ) (Q : E → Type 0) → MatchResult r (λ x. ◌≡◌ {A = Result ℕ D} (Ok n) (Ok x)) Q → true ≡ is_ok r → r ≡ Ok n
+good_before D (Ok x) n Q e v = let same : x ≡ n = cc in ap Ok same
+good_before D (Err y) n Q e v = absurd (cc)

@@ -31,7 +31,7 @@ pub struct Indexed<'a> {
 
 impl<'a> Indexed<'a> {
     ghost use Rattle.algebra.specs.Firing.{fire_items};
-    ghost use Rattle.moving.specs.inner.InOrder.{transitions_within};
+    ghost use Rattle.moving.specs.Net.{transitions_of};
     ghost use Rattle.moving.specs.inner.Moves.{Moves};
     ghost use Rattle.step.specs.inner.Naming.{Found, ItemFound, ItemMissed};
     ghost use Rattle.step.specs.inner.Reads.{read_and_fire};
@@ -76,7 +76,7 @@ impl<'a> Indexed<'a> {
         requires room { length items.now ≡ length ts.old }
         requires marking_length { length marking.old ≡ self.net.places }
         requires marking_value { all (λ x. leb x 1) marking.old ≡ true }
-        ensures { Moves result marking.old marking.new (fire_items (transitions_within self.entry.net.rows.now self.entry.net.arcs.now self.entry.net.transitions) marking.old (map code_item items.now)) }
+        ensures { Moves result marking.old marking.new (fire_items (transitions_of self.entry.net) marking.old (map code_item items.now)) }
     {
         if let Err(item) = self.find_items(items, ts) {
             return Err(Fault::NoTransition.at(item));
@@ -88,13 +88,11 @@ impl<'a> Indexed<'a> {
     pub fn read_and_fire(self, step: &[u8], marking: &mut [u8]) -> Result<(), Refusal>
         requires marking_length { length marking.old ≡ self.net.places }
         requires marking_value { all (λ x. leb x 1) marking.old ≡ true }
-        ensures { Moves result marking.old marking.new (read_and_fire (transitions_within self.entry.net.rows.now self.entry.net.arcs.now self.entry.net.transitions) marking.old step.now) }
+        ensures { Moves result marking.old marking.new (read_and_fire (transitions_of self.entry.net) marking.old step.now) }
     {
         let mut items = no_items();
         let mut ts = [0; MOST_ITEMS];
-        match read_lent_step(step, &mut items) {
-            Err(fault) => Err(fault.at(0)),
-            Ok(count) => self.fire_items(&items[..count], &mut ts[..count], marking),
-        }
+        let count = read_lent_step(step, &mut items).map_err(|fault| fault.at(0))?;
+        self.fire_items(&items[..count], &mut ts[..count], marking)
     }
 }
