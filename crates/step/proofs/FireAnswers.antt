@@ -56,6 +56,6 @@ step_fired net m s items count read r m' moves =
     subst (λ (a : Answer (List Item)). Moves r m m' (a >>= fire_items net m)) (ap good (sym (take-map code_item count items)) ∙ read) moves
 
 -- What was read where the reading is good, whatever a refusal is turned into.
-pub good_before : {E : Type 0} (D : Type 0) (r : Result ℕ E) (n : ℕ) (Q : E → Type 0) → MatchResult r (λ x. ◌≡◌ {A = Result ℕ D} (Ok n) (Ok x)) Q → true ≡ is_ok r → r ≡ Ok n
+pub good_before : {A E : Type 0} (D : Type 0) (r : Result A E) (n : A) (Q : E → Type 0) → MatchResult r (λ x. ◌≡◌ {A = Result A D} (Ok n) (Ok x)) Q → true ≡ is_ok r → r ≡ Ok n
 good_before D (Ok x) n Q e v = let same : x ≡ n = cc in ap Ok same
 good_before D (Err y) n Q e v = absurd (cc)
