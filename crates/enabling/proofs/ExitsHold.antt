@@ -1,40 +1,32 @@
 -- The exit places looked at one after another; and in the kinds of a net, whose exits stand last, they are the places behind all others.
 -- True by recursion on the kinds.
-use Prim.Native.Nat.{ℕ, zero, suc, ◌+◌, ◌≤◌, ◌<◌}
+use Prim.Native.Nat.{ℕ, zero, suc, ◌+◌}
 use native.Mathlib.Omega.{arith}
-use native.Mathlib.Numerals.{add-one}
-use mathlib.Core.Path.{◌≡◌, refl, sym, ◌∙◌, ap, ap₂}
-use mathlib.Core.Bool.{Bool, true, false, not, ◌&&◌, ◌||◌}
+use mathlib.Core.Path.{◌≡◌, refl, sym, ap, ap₂}
+use mathlib.Core.Bool.{Bool, not, ◌&&◌, ◌||◌}
 use mathlib.Core.List.{List, [], ◌∷◌, ◌++◌}
-use lib.ListN.{length, get_or, drop, replicate, drop_of_length-le}
-use lib.Seq.{drop-cons}
+use lib.ListN.{length, drop, replicate}
 use lib.Dec.{eqb, leb}
-use borrow.Author.Tests.{eq-eqb, ne_eqb, le-leb, lt-leb}
+use borrow.Author.Tests.{ne_eqb, eqb-true, eqb-false, le-leb, lt-leb}
+use Rattle.std.specs.List.{list_all, zip}
 use Rattle.field.specs.Lists.{all}
+use Rattle.field.proofs.Tests.{test}
 use Rattle.enabling.specs.Enabled.{exits_hold}
 
-module _ (kinds m : List ℕ) (same : length kinds ≡ length m) (i : ℕ) where
-  abbrev Rest : Bool
-  Rest = exits_hold (drop (i + 1) kinds) (drop (i + 1) m)
+-- A place whose kind is 3 holds a token.
+abbrev pub ExitHolds : ℕ × ℕ → Bool
+ExitHolds p = not (eqb p.0 3) || not (eqb p.1 0)
 
-  turn : i < length kinds → exits_hold (drop i kinds) (drop i m) ≡ ((not (eqb (get_or kinds i 0) 3) || leb 1 (get_or m i 0)) && Rest)
-  unfolding exits_hold
-  turn h =
-      ap₂ exits_hold (drop-cons kinds i 0 h ∙ ap (λ k. get_or kinds i 0 ∷ drop k kinds) (sym (add-one i)))
-      (drop-cons m i 0 (omega arith) ∙ ap (λ k. get_or m i 0 ∷ drop k m) (sym (add-one i)))
+holds_one : (x : ℕ) → not (eqb x 0) ≡ leb 1 x
+holds_one x =
+    test (eqb x 0) (λ e. rw e (sym (lt-leb 1 x (omega (arith, eqb-true x 0 e))))) (λ e. rw e (sym (le-leb 1 x (omega (arith, eqb-false x 0 e)))))
 
-  pub no_exit : i < length kinds → (get_or kinds i 0 ≡ 3 → ⊥) → exits_hold (drop i kinds) (drop i m) ≡ Rest
-  no_exit h n = turn h ∙ rw (ne_eqb (get_or kinds i 0) 3 n) refl
-
-  pub marked_exit : i < length kinds → get_or kinds i 0 ≡ 3 → (get_or m i 0 ≡ 0 → ⊥) → exits_hold (drop i kinds) (drop i m) ≡ Rest
-  marked_exit h e n = turn h ∙ rw (eq-eqb (get_or kinds i 0) 3 e, le-leb 1 (get_or m i 0) (omega arith)) refl
-
-  pub empty_exit : i < length kinds → get_or kinds i 0 ≡ 3 → get_or m i 0 ≡ 0 → exits_hold (drop i kinds) (drop i m) ≡ false
-  empty_exit h e z = turn h ∙ rw (eq-eqb (get_or kinds i 0) 3 e, lt-leb 1 (get_or m i 0) (omega arith)) refl
-
-  pub no_more : length kinds ≤ i → exits_hold (drop i kinds) (drop i m) ≡ true
-  unfolding exits_hold
-  no_more h = ap (λ l. exits_hold l (drop i m)) (drop_of_length-le kinds {i = i} h)
+pub exits_paired : (kinds m : List ℕ) → length kinds ≡ length m → list_all ExitHolds (zip kinds m) ≡ exits_hold kinds m
+unfolding exits_hold
+exits_paired [] m e = refl
+exits_paired (k ∷ ks) [] e = absurd (omega arith)
+exits_paired (k ∷ ks) (x ∷ m) e =
+    ap₂ (λ (a b : Bool). (not (eqb k 3) || a) && b) (holds_one x) (exits_paired ks m (omega arith))
 
 -- ---- in a net
 pub last_hold : (c : ℕ) (m : List ℕ) → length m ≡ c → exits_hold (replicate c 3) m ≡ all (λ x. leb 1 x) m

@@ -2,47 +2,48 @@
 #![tactic(auto)]
 
 ghost use Rattle.std.specs.Prelude.{◌≡◌};
-ghost use Rattle.net.specs.Lent.{lent};
+ghost use Rattle.net.specs.Lent.{tables_lent};
 ghost use Rattle.enabling.specs.Enabled;
 ghost use Rattle.enabling.specs.Says.{enabling_says};
 
-pub mod listing;
+use field::{Fault, Refusal};
+use listing::{Marked, exits_hold};
+use moving::Net;
+use net::Lent;
+use net::tokens::is_marking;
 
-// How many transitions are enabled, that none is, or the refusal with what it carries.
-#[derive(Clone, Copy)]
+mod listing;
+
+/// How many transitions are enabled; or that none is, with some exit place unmarked.
+#[derive(Clone, Copy, Debug, PartialEq, Eq)]
 pub enum Enabling {
     Many(usize),
     Stuck,
-    Refused(usize, usize),
 }
 
-// Lists the enabled transitions. On refusal nothing is written, and what lies behind the list is never touched.
-pub fn enabled(
-    kinds: &[u8],
-    rows: &[u16],
-    arcs: &[u16],
-    places: usize,
-    transitions: usize,
-    arc_count: usize,
-    marking: &[u8],
-    out: &mut [u16],
-) -> Enabling
-    ensures answer { enabling_says result ≡ (Enabled.enabled (lent kinds.now rows.now arcs.now places transitions arc_count) marking.now out.old).answer }
-    ensures list { out.new ≡ (Enabled.enabled (lent kinds.now rows.now arcs.now places transitions arc_count) marking.now out.old).list }
+/// Lists the enabled transitions. On refusal nothing is written, and what lies behind the list is never touched.
+pub fn enabled(lent: &Lent, marking: &[u8], out: &mut [u16]) -> Result<Enabling, Refusal>
+    ensures answer { enabling_says result ≡ (Enabled.enabled (tables_lent lent.now) marking.now out.old).answer }
+    ensures list { out.new ≡ (Enabled.enabled (tables_lent lent.now) marking.now out.old).list }
 {
-    if !net::is_net(kinds, rows, arcs, places, transitions, arc_count) {
-        return Enabling::Refused(field::NO_NET, 0);
+    if !net::is_net(lent) {
+        return Err(Fault::NoNet.at(0));
     }
-    if !net::tokens::is_marking(marking, places) {
-        return Enabling::Refused(field::NO_MARKING, 0);
+    if !is_marking(marking, lent.places) {
+        return Err(Fault::NoMarking.at(0));
     }
-    let tokens = &marking[..places];
-    if !listing::fit(rows, arcs, tokens, transitions, out.len()) {
-        return Enabling::Refused(field::TABLE_TOO_SHORT, 0);
+    let tokens = &marking[..lent.places];
+    let marked = Marked {
+        net: Net::lent(lent),
+        tokens,
+    };
+    if !marked.fits(out.len()) {
+        return Err(Fault::TableTooShort.at(0));
     }
-    let many = listing::write(rows, arcs, tokens, transitions, out);
-    if many == 0 {
-        return listing::when_none(&kinds[..places], tokens);
+    let many = marked.write(out);
+    // A run that is over is not stuck.
+    if many == 0 && !exits_hold(&lent.kinds[..lent.places], tokens) {
+        return Ok(Enabling::Stuck);
     }
-    Enabling::Many(many)
+    Ok(Enabling::Many(many))
 }

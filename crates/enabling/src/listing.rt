@@ -1,111 +1,75 @@
-// The enabled transitions of a net, counted and listed.
-ghost use Rattle.std.specs.Prelude.{◌≡◌, true, ◌≤◌, length, leb, []};
+// The enabled transitions of a net at a marking, counted and listed.
+ghost use Rattle.std.specs.Prelude.{◌≡◌, ◌==◌, ◌||◌, true, not, ◌<◌, ◌≤◌, length, leb, count_by};
+ghost use Rattle.std.specs.List.{list_all, zip, range_with_len};
 ghost use Rattle.std.proofs.lemmas.List.Edits.{sets};
 ghost use Rattle.field.specs.Lists.{all};
-ghost use Rattle.field.specs.Answer.{good};
-ghost use Rattle.algebra.specs.Firing.{marked, enabled_from};
-ghost use Rattle.enabling.specs.Enabled.{exits_hold, how_many};
-ghost use Rattle.enabling.specs.Says.{enabling_says};
-ghost use Rattle.moving.specs.inner.Moving.{Fits};
-ghost use Rattle.moving.specs.inner.InOrder.{transition_in, transitions_within, InOrder};
 
-use crate::Enabling;
+use moving::Net;
+use net::Side;
 
+// 01, "Net tables", "3 exit".
 const EXIT: u8 = 3;
 
-// All input places of transition t are marked.
-fn is_marked(rows: &[u16], arcs: &[u16], marking: &[u8], t: usize) -> bool
-    requires fits { Fits rows.now arcs.now (length marking.now) t }
-    requires marking_value { all (λ x. leb x 1) marking.now ≡ true }
-    ensures { result ≡ marked marking.now (transition_in rows.now arcs.now t) }
-{
-    moving::all_hold(marking, moving::side(rows, arcs, t, moving::INPUTS), 1)
+/// A net that is in order, and its part of a marking.
+#[derive(Clone, Copy)]
+pub struct Marked<'a> {
+    pub net: Net<'a>,
+    pub tokens: &'a [u8],
+    ghost long: { length tokens.now ≡ net.places },
+    ghost safe: { all (λ x. leb x 1) tokens.now ≡ true },
 }
 
-fn count(rows: &[u16], arcs: &[u16], marking: &[u8], transitions: usize) -> usize
-    requires in_order { InOrder rows.now arcs.now transitions (length marking.now) }
-    requires marking_value { all (λ x. leb x 1) marking.now ≡ true }
-    ensures { result ≡ length (enabled_from 0 marking.now (transitions_within rows.now arcs.now transitions)) }
-{
-    let mut many: usize = 0;
-    let mut t: usize = 0;
-    while t < transitions {
-        if is_marked(rows, arcs, marking, t) {
-            many += 1;
-            t += 1;
-        } else {
-            t += 1;
-        }
+impl<'a> Marked<'a> {
+    ghost use Rattle.algebra.specs.Firing.{marked, enabled_from};
+    ghost use Rattle.moving.specs.inner.InOrder.{transition_in};
+    ghost use Rattle.moving.specs.Net.{transitions_of};
+
+    // All input places of transition t are marked.
+    fn is_enabled(self, t: usize) -> bool
+        requires { t < self.net.transitions }
+        ensures { result ≡ marked self.entry.tokens.now (transition_in self.entry.net.rows.now self.entry.net.arcs.now t) }
+    {
+        self.net.holds(self.tokens, t, Side::Inputs, 1)
     }
-    many
-}
 
-// Whether so much room is enough for the enabled transitions. They are counted only where it is not enough for all transitions.
-pub fn fit(rows: &[u16], arcs: &[u16], marking: &[u8], transitions: usize, room: usize) -> bool
-    requires in_order { InOrder rows.now arcs.now transitions (length marking.now) }
-    requires marking_value { all (λ x. leb x 1) marking.now ≡ true }
-    ensures { result ≡ leb (length (enabled_from 0 marking.now (transitions_within rows.now arcs.now transitions))) room }
-{
-    if transitions <= room {
-        return true;
+    fn count(self) -> usize
+        ensures { result ≡ count_by (λ t. marked self.entry.tokens.now (transition_in self.entry.net.rows.now self.entry.net.arcs.now t)) (range_with_len 0 self.entry.net.transitions) }
+    {
+        (0..self.net.transitions)
+            .filter(|&t| self.is_enabled(t))
+            .count()
     }
-    count(rows, arcs, marking, transitions) <= room
-}
 
-// Their numbers, from the front of `out` on, which has room for them; and how many they are.
-pub fn write(
-    rows: &[u16],
-    arcs: &[u16],
-    marking: &[u8],
-    transitions: usize,
-    out: &mut [u16],
-) -> usize
-    requires in_order { InOrder rows.now arcs.now transitions (length marking.now) }
-    requires marking_value { all (λ x. leb x 1) marking.now ≡ true }
-    requires transitions_in_bounds { length (enabled_from 0 marking.now (transitions_within rows.now arcs.now transitions)) ≤ length out.old }
-    ensures many { result ≡ length (enabled_from 0 marking.now (transitions_within rows.now arcs.now transitions)) }
-    ensures list { out.new ≡ sets out.old 0 (enabled_from 0 marking.now (transitions_within rows.now arcs.now transitions)) }
-{
-    let mut many: usize = 0;
-    let mut t: usize = 0;
-    while t < transitions {
-        if is_marked(rows, arcs, marking, t) {
-            out[many] = t as u16;
-            many += 1;
-            t += 1;
-        } else {
-            t += 1;
-        }
+    /// Whether so much room is enough for the enabled transitions. They are counted only where it is not enough for all transitions.
+    pub fn fits(self, room: usize) -> bool
+        ensures { result ≡ leb (length (enabled_from 0 self.entry.tokens.now (transitions_of self.entry.net))) room }
+    {
+        self.net.transitions <= room || self.count() <= room
     }
-    many
-}
 
-// Every exit place is marked.
-fn exits_hold(kinds: &[u8], marking: &[u8]) -> bool
-    requires { length kinds.now ≡ length marking.now }
-    ensures { result ≡ exits_hold kinds.now marking.now }
-{
-    let mut i: usize = 0;
-    while i < kinds.len() {
-        if kinds[i] == EXIT {
-            if marking[i] == 0 {
-                return false;
+    /// Their numbers, from the front of `out` on, which has room for them; and how many they are.
+    pub fn write(self, out: &mut [u16]) -> usize
+        requires { length (enabled_from 0 self.tokens.now (transitions_of self.net)) ≤ length out.old }
+        ensures many { result ≡ length (enabled_from 0 self.entry.tokens.now (transitions_of self.entry.net)) }
+        ensures list { out.new ≡ sets out.old 0 (enabled_from 0 self.entry.tokens.now (transitions_of self.entry.net)) }
+    {
+        let mut many = 0;
+        for t in 0..self.net.transitions {
+            if self.is_enabled(t) {
+                out[many] = t as u16;
+                many += 1;
             }
-            i += 1;
-        } else {
-            i += 1;
         }
+        many
     }
-    true
 }
 
-// What is answered where nothing is enabled: a run that is over is not stuck.
-pub fn when_none(kinds: &[u8], marking: &[u8]) -> Enabling
-    requires { length kinds.now ≡ length marking.now }
-    ensures { enabling_says result ≡ good (how_many (exits_hold kinds.now marking.now) []) }
+/// Every exit place is marked.
+pub fn exits_hold(kinds: &[u8], marking: &[u8]) -> bool
+    ensures { result ≡ list_all (λ p. not (p.0 == 3) || not (p.1 == 0)) (zip kinds.now marking.now) }
 {
-    if exits_hold(kinds, marking) {
-        return Enabling::Many(0);
-    }
-    Enabling::Stuck
+    kinds
+        .iter()
+        .zip(marking)
+        .all(|(&kind, &tokens)| kind != EXIT || tokens != 0)
 }

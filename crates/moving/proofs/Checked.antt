@@ -28,8 +28,3 @@ marking_good places m b e t =
     passes : (x : Bool) → check x no_marking 0 ≡ good tt → x ≡ true
     passes true e = refl
     passes false e = good_not_refused (refused no_marking 0) tt no_marking 0 e refl
-
-pub lent_order : (kinds rows arcs : List ℕ) (places transitions arc_count : ℕ) (m : List ℕ) (b : Bool) → b ≡ is_net (lent kinds rows arcs places transitions arc_count) → b ≡ true → places ≤ length m
-    → InOrder rows arcs transitions (length (take places m))
-lent_order kinds rows arcs places transitions arc_count m b e t l =
-    subst (InOrder rows arcs transitions) (sym (length-take-le places m l)) (net_in_order kinds rows arcs places transitions arc_count (sym e ∙ t))

@@ -10,8 +10,9 @@ use lib.ListN.{length, get_or, set, length-set}
 use lib.Seq.{get_or-set_same, get_or-set_other, ext_get_or}
 use lib.Dec.{eqb, leb, eqb→eq, leb-suc-suc}
 use borrow.Author.Tests.{eqb-true, eqb-false, lt-leb}
+use Rattle.std.proofs.lemmas.List.Folds.{list_all-append}
 use Rattle.field.specs.Lists.{all}
-use Rattle.field.proofs.Alls.{all_at, all_append, and_assoc}
+use Rattle.field.proofs.Alls.{all_at, and_assoc}
 use Rattle.field.proofs.Tests.{true_T}
 use Rattle.algebra.specs.Firing.{count}
 use Rattle.algebra.proofs.Enough.{count_here, count_other, count_member}
@@ -50,8 +51,13 @@ filled_here tokens m (p ∷ ps) q h l =
     (λ k. filled_here tokens (set m p tokens) ps q k (omega (arith, length-set m p tokens)))
     (zero_or_more (count q ps))
 
+pub hold_is_all : (tokens : ℕ) (m ps : List ℕ) → hold tokens m ps ≡ all (λ p. eqb (get_or m p 0) tokens) ps
+unfolding all
+hold_is_all tokens m [] = refl
+hold_is_all tokens m (p ∷ ps) = ap (λ (b : Bool). eqb (get_or m p 0) tokens && b) (hold_is_all tokens m ps)
+
 pub hold_at : (tokens : ℕ) (m ps : List ℕ) (q : ℕ) → hold tokens m ps ≡ true → 1 ≤ count q ps → get_or m q 0 ≡ tokens
-hold_at tokens m ps q e h = eqb→eq (get_or m q 0) tokens (all_at (λ p. eqb (get_or m p 0) tokens) ps (true_T (hold tokens m ps) e) q (count_member q ps h))
+hold_at tokens m ps q e h = eqb→eq (get_or m q 0) tokens (all_at (λ p. eqb (get_or m p 0) tokens) ps (true_T _ (sym (hold_is_all tokens m ps) ∙ e)) q (count_member q ps h))
 
 -- Only places of the list were touched, and each of them held so many tokens: filled again, the marking is what it was.
 pub restored : (tokens : ℕ) (m w ps : List ℕ) → length w ≡ length m → Agree ps m w → hold tokens m ps ≡ true → filled tokens w ps ≡ m
@@ -68,12 +74,12 @@ filled_agrees tokens m ps q z = filled_other tokens m ps q z
 
 -- All lists pass exactly when the in_one list does.
 pub holds_all : (tokens : ℕ) (m : List ℕ) (ls : List (List ℕ)) → leb (length ls) (holds_each tokens m ls) ≡ hold tokens m (in_one ls)
-unfolding holds_each in_one all
+unfolding holds_each in_one
 holds_all tokens m [] = refl
 holds_all tokens m (ps ∷ ls) =
     test (hold tokens m ps)
-    (λ e. rw (e, all_append, e, leb-suc-suc) (holds_all tokens m ls))
-    (λ e. rw (e, all_append, e) (lt-leb (suc (length ls)) 0 (omega arith)))
+    (λ e. rw (e, list_all-append, e, leb-suc-suc) (holds_all tokens m ls))
+    (λ e. rw (e, list_all-append, e) (lt-leb (suc (length ls)) 0 (omega arith)))
 
 pub shifts_append : (from to : ℕ) (m a b : List ℕ) → shifts from to m (a ++ b) ≡ (shifts from to m a && shifts from to (filled to m a) b)
 unfolding shifts filled

@@ -1,3 +1,4 @@
+pub mod Faults
 pub mod MoveTurns
 pub mod Filled
 pub mod MoveAnswers

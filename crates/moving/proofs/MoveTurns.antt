@@ -3,18 +3,19 @@
 use Prim.Native.Nat.{ℕ, zero, suc, ◌+◌, ◌-◌, ◌≤◌, ◌<◌}
 use mathlib.Core.Path.{◌≡◌, refl, sym, ap, subst, ◌∙◌}
 use mathlib.Core.List.{List, [], ◌∷◌, ◌++◌}
-use mathlib.Core.Bool.{Bool, true, false, ◌&&◌}
+use mathlib.Core.Bool.{true, false, ◌&&◌}
 use native.Mathlib.Nat.{add-zero, add-suc, suc-add}
 use native.Mathlib.Numerals.{add-one}
 use native.Mathlib.Omega.{arith}
 use lib.ListN.{length, get_or, set, take, drop, drop_of_length-le}
 use lib.Seq.{drop-cons, get_or-set_other}
 use lib.Dec.{eqb}
-use Rattle.field.specs.Lists.{all}
 use Rattle.algebra.specs.Firing.{count}
 use Rattle.algebra.proofs.Enough.{count_here, count_cons, count_append}
 use Rattle.net.specs.inner.Chains.{in_row}
-use Rattle.moving.specs.inner.Moving.{side_of, sides, Below, Fits, AllFit, hold, holds_each, filled, shifts, shifts_each, in_one}
+use Rattle.net.specs.declared.Side.{Side}
+use Rattle.net.specs.declared.Side.TheVariants.{Inputs, Outputs}
+use Rattle.moving.specs.inner.Moving.{side_of, sides, filled, shifts, shifts_each, in_one}
 
 pub list_next : (l : List ℕ) (i p : ℕ) → i < length l → p ≡ get_or l i 0 → drop i l ≡ p ∷ drop (i + 1) l
 list_next l i p h e = rw (add-one, drop-cons l i 0, e)
@@ -35,10 +36,6 @@ agree_set ps m m' p x h a q z =
 
 -- over a list of places
 module _ (l : List ℕ) (i p : ℕ) (h : i < length l) (e : p ≡ get_or l i 0) where
-  pub hold_turn : (tokens : ℕ) (m : List ℕ) → hold tokens m (drop i l) ≡ (eqb (get_or m p 0) tokens && hold tokens m (drop (i + 1) l))
-  unfolding all
-  hold_turn tokens m = rw (list_next l i p h e)
-
   pub filled_turn : (tokens : ℕ) (m : List ℕ) → filled tokens m (drop i l) ≡ filled tokens (set m p tokens) (drop (i + 1) l)
   unfolding filled
   filled_turn tokens m = rw (list_next l i p h e)
@@ -48,10 +45,6 @@ module _ (l : List ℕ) (i p : ℕ) (h : i < length l) (e : p ≡ get_or l i 0) 
   shifts_turn from to m = rw (list_next l i p h e)
 
 module _ (l : List ℕ) (i : ℕ) (h : length l ≤ i) where
-  pub hold_end : (tokens : ℕ) (m : List ℕ) → hold tokens m (drop i l) ≡ true
-  unfolding all
-  hold_end tokens m = rw (drop_of_length-le l h)
-
   pub filled_end : (tokens : ℕ) (m : List ℕ) → filled tokens m (drop i l) ≡ m
   unfolding filled
   filled_end tokens m = rw (drop_of_length-le l h)
@@ -61,18 +54,14 @@ module _ (l : List ℕ) (i : ℕ) (h : length l ≤ i) where
   shifts_end from to m = rw (drop_of_length-le l h)
 
 -- the part of the arcs that a row tells
-module _ (rows arcs : List ℕ) (t : ℕ) (out : Bool) where
-  pub side_outputs : out ≡ true → (start ins outs : ℕ) → start ≡ in_row rows t 3 → ins ≡ in_row rows t 4 → outs ≡ in_row rows t 5
-      → take (start + ins + outs - (start + ins)) (drop (start + ins) arcs) ≡ side_of out rows arcs t
+module _ (rows arcs : List ℕ) (t start ins : ℕ) (p : start ≡ in_row rows t 3) (q : ins ≡ in_row rows t 4) where
+  pub side_inputs : take (start + ins - start) (drop start arcs) ≡ side_of Inputs rows arcs t
   unfolding side_of
-  side_outputs e start ins outs p q r =
-      let n : start + ins + outs - (start + ins) ≡ outs = omega arith in
-      rw (n, e, ← p, ← q, ← r)
+  side_inputs = let n : start + ins - start ≡ ins = omega arith in rw (n, ← p, ← q)
 
-  pub side_inputs : out ≡ false → (start ins : ℕ) → start ≡ in_row rows t 3 → ins ≡ in_row rows t 4
-      → take (start + ins - start) (drop start arcs) ≡ side_of out rows arcs t
+  pub side_outputs : (outs : ℕ) → outs ≡ in_row rows t 5 → take (start + ins + outs - (start + ins)) (drop (start + ins) arcs) ≡ side_of Outputs rows arcs t
   unfolding side_of
-  side_inputs e start ins p q = let n : start + ins - start ≡ ins = omega arith in rw (n, e, ← p, ← q)
+  side_outputs outs r = let n : start + ins + outs - (start + ins) ≡ outs = omega arith in rw (n, ← p, ← q, ← r)
 
 pub filled_append : (tokens : ℕ) (m a b : List ℕ) → filled tokens m (a ++ b) ≡ filled tokens (filled tokens m a) b
 unfolding filled
@@ -80,37 +69,21 @@ filled_append tokens m [] b = refl
 filled_append tokens m (p ∷ a) b = filled_append tokens (set m p tokens) a b
 
 -- the places of one item are among those of all
-item_inside : (out : Bool) (rows arcs : List ℕ) (q : ℕ) (ts : List ℕ) (i : ℕ) → i < length ts → count q (side_of out rows arcs (get_or ts i 0)) ≤ count q (in_one (sides out rows arcs ts))
+item_inside : (side : Side) (rows arcs : List ℕ) (q : ℕ) (ts : List ℕ) (i : ℕ) → i < length ts → count q (side_of side rows arcs (get_or ts i 0)) ≤ count q (in_one (sides side rows arcs ts))
 unfolding in_one
-item_inside out rows arcs q [] i h = absurd (omega arith)
-item_inside out rows arcs q (t ∷ ts) zero h = omega (arith, count_append q (side_of out rows arcs t) (in_one (sides out rows arcs ts)))
-item_inside out rows arcs q (t ∷ ts) (suc i) h =
-    omega (arith, item_inside out rows arcs q ts i (omega arith), count_append q (side_of out rows arcs t) (in_one (sides out rows arcs ts)))
+item_inside side rows arcs q [] i h = absurd (omega arith)
+item_inside side rows arcs q (t ∷ ts) zero h = omega (arith, count_append q (side_of side rows arcs t) (in_one (sides side rows arcs ts)))
+item_inside side rows arcs q (t ∷ ts) (suc i) h =
+    omega (arith, item_inside side rows arcs q ts i (omega arith), count_append q (side_of side rows arcs t) (in_one (sides side rows arcs ts)))
 
 -- over a step's items: the loop stands at item i, transition t, whose places are l
-module _ (rows arcs ts : List ℕ) (out : Bool) (i t : ℕ) (h : i < length ts) (e : t ≡ get_or ts i 0) where
-  pub fits_at : (places : ℕ) → AllFit rows arcs places ts → Fits rows arcs places t
-  fits_at places f = subst (Fits rows arcs places) (sym e) (f i h)
+module _ (rows arcs ts : List ℕ) (side : Side) (i t : ℕ) (h : i < length ts) (e : t ≡ get_or ts i 0) where
+  module _ (l : List ℕ) (s : l ≡ side_of side rows arcs t) where
+    sides_next : sides side rows arcs (drop i ts) ≡ l ∷ sides side rows arcs (drop (i + 1) ts)
+    sides_next = ap (sides side rows arcs) (list_next ts i t h e) ∙ ap (λ (k : List ℕ). k ∷ sides side rows arcs (drop (i + 1) ts)) (sym s)
 
-  module _ (l : List ℕ) (s : l ≡ side_of out rows arcs t) where
-    pub below_at : (places : ℕ) → AllFit rows arcs places ts → Below places l
-    below_at places f = subst (Below places) (sym s) ((fits_at places f).below out)
-
-    sides_next : sides out rows arcs (drop i ts) ≡ l ∷ sides out rows arcs (drop (i + 1) ts)
-    sides_next = ap (sides out rows arcs) (list_next ts i t h e) ∙ ap (λ (k : List ℕ). k ∷ sides out rows arcs (drop (i + 1) ts)) (sym s)
-
-    -- how many items pass before the first that does not
-    module _ (tokens : ℕ) (m : List ℕ) (n : ℕ) (inv : n ≡ i + holds_each tokens m (sides out rows arcs (drop i ts))) where
-      pub holding_more : hold tokens m l ≡ true → n ≡ i + 1 + holds_each tokens m (sides out rows arcs (drop (i + 1) ts))
-      unfolding holds_each
-      holding_more b = inv ∙ rw (sides_next, b, add-one i, add-suc, suc-add)
-
-      pub holding_no : hold tokens m l ≡ false → i ≡ n
-      unfolding holds_each
-      holding_no b = sym (inv ∙ rw (sides_next, b, add-zero i))
-
-    module _ (from to : ℕ) (m : List ℕ) (n : ℕ) (inv : n ≡ i + shifts_each from to m (sides out rows arcs (drop i ts))) where
-      pub shifting_more : shifts from to m l ≡ true → n ≡ i + 1 + shifts_each from to (filled to m l) (sides out rows arcs (drop (i + 1) ts))
+    module _ (from to : ℕ) (m : List ℕ) (n : ℕ) (inv : n ≡ i + shifts_each from to m (sides side rows arcs (drop i ts))) where
+      pub shifting_more : shifts from to m l ≡ true → n ≡ i + 1 + shifts_each from to (filled to m l) (sides side rows arcs (drop (i + 1) ts))
       unfolding shifts_each
       shifting_more b = inv ∙ rw (sides_next, b, add-one i, add-suc, suc-add)
 
@@ -118,25 +91,17 @@ module _ (rows arcs ts : List ℕ) (out : Bool) (i t : ℕ) (h : i < length ts) 
       unfolding shifts_each
       shifting_no b = sym (inv ∙ rw (sides_next, b, add-zero i))
 
-    pub filling_turn : (tokens : ℕ) (m : List ℕ) → filled tokens m (in_one (sides out rows arcs (drop i ts))) ≡ filled tokens (filled tokens m l) (in_one (sides out rows arcs (drop (i + 1) ts)))
+    pub filling_turn : (tokens : ℕ) (m : List ℕ) → filled tokens m (in_one (sides side rows arcs (drop i ts))) ≡ filled tokens (filled tokens m l) (in_one (sides side rows arcs (drop (i + 1) ts)))
     unfolding in_one
-    filling_turn tokens m = rw sides_next (filled_append tokens m l (in_one (sides out rows arcs (drop (i + 1) ts))))
+    filling_turn tokens m = rw sides_next (filled_append tokens m l (in_one (sides side rows arcs (drop (i + 1) ts))))
 
-    pub agree_turn : (m m' m'' : List ℕ) → Agree (in_one (sides out rows arcs ts)) m m' → Agree l m' m'' → Agree (in_one (sides out rows arcs ts)) m m''
+    pub agree_turn : (m m' m'' : List ℕ) → Agree (in_one (sides side rows arcs ts)) m m' → Agree l m' m'' → Agree (in_one (sides side rows arcs ts)) m m''
     agree_turn m m' m'' a b q z =
-        b q (let k : count q l ≤ count q (in_one (sides out rows arcs ts))
-        = subst (λ (u : List ℕ). count q u ≤ count q (in_one (sides out rows arcs ts))) (sym (s ∙ ap (side_of out rows arcs) e)) (item_inside out rows arcs q ts i h) in omega arith)
+        b q (let k : count q l ≤ count q (in_one (sides side rows arcs ts))
+        = subst (λ (u : List ℕ). count q u ≤ count q (in_one (sides side rows arcs ts))) (sym (s ∙ ap (side_of side rows arcs) e)) (item_inside side rows arcs q ts i h) in omega arith)
         ∙ a q z
 
-module _ (rows arcs ts : List ℕ) (out : Bool) (i : ℕ) (h : length ts ≤ i) where
-  pub holding_end : (tokens : ℕ) (m : List ℕ) (n : ℕ) → n ≡ i + holds_each tokens m (sides out rows arcs (drop i ts)) → i ≡ n
-  unfolding holds_each
-  holding_end tokens m n inv = sym (inv ∙ rw (drop_of_length-le ts h, add-zero i))
-
-  pub shifting_end : (from to : ℕ) (m : List ℕ) (n : ℕ) → n ≡ i + shifts_each from to m (sides out rows arcs (drop i ts)) → i ≡ n
-  unfolding shifts_each
-  shifting_end from to m n inv = sym (inv ∙ rw (drop_of_length-le ts h, add-zero i))
-
-  pub filling_end : (tokens : ℕ) (m : List ℕ) → filled tokens m (in_one (sides out rows arcs (drop i ts))) ≡ m
+module _ (rows arcs ts : List ℕ) (side : Side) (i : ℕ) (h : length ts ≤ i) where
+  pub filling_end : (tokens : ℕ) (m : List ℕ) → filled tokens m (in_one (sides side rows arcs (drop i ts))) ≡ m
   unfolding in_one filled
   filling_end tokens m = rw (drop_of_length-le ts h)

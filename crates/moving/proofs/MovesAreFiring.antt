@@ -14,6 +14,7 @@ use lib.Seq.{get_or-set_other}
 use lib.Dec.{T, eqb, leb, ltb, leb-suc-suc}
 use Rattle.field.specs.Refusals.{input_empty, input_shared}
 use Rattle.field.specs.Answer.{check}
+use Rattle.std.proofs.lemmas.List.Folds.{list_all-append}
 use Rattle.field.specs.Lists.{all}
 use Rattle.field.proofs.Tests.{and_parts, T_true, true_T}
 use Rattle.algebra.specs.Net.{Transition}
@@ -104,7 +105,7 @@ unfolding check_apart shifts_each in_one all
 apart_each places m taken at [] r h = refl
 apart_each places m taken at (t ∷ ts) r h =
     let a = and_parts (lists_rise places t) (all (lists_rise places) ts) r in
-    let hs = Rattle.field.proofs.Alls.all_split (λ p. eqb (get_or m p 0) 1) t.inputs (in_one (ins_of ts)) (true_T _ h) in
+    let hs = and_parts (hold 1 m t.inputs) (hold 1 m (in_one (ins_of ts))) (true_T _ (sym (list_all-append (λ p. eqb (get_or m p 0) 1) t.inputs (in_one (ins_of ts))) ∙ h)) in
     let now : shifts 1 0 (filled 0 m taken) t.inputs ≡ all (λ p. eqb (count p taken) 0) t.inputs
     = rising_apart places 0 (filled 0 m taken) taken t.inputs (rising_lists places t a.0).0
     (λ q k c. still_there m taken q (hold_at 1 m t.inputs q (T_true _ hs.0) c)) in

@@ -23,7 +23,7 @@ use Rattle.algebra.proofs.Fires.{moved_length, moved_at}
 use Rattle.net.specs.Check.{rising, lists_rise}
 use Rattle.moving.specs.inner.Moving.{hold, holds_each, filled, shifts, shifts_each, in_one, passed, moves}
 use Rattle.field.proofs.Tests.{never, test}
-use Rattle.moving.proofs.Filled.{zero_or_more, filled_length, filled_other, filled_here, holds_all, shifts_all}
+use Rattle.moving.proofs.Filled.{zero_or_more, filled_length, filled_other, filled_here, hold_is_all, holds_all, shifts_all}
 use Rattle.moving.proofs.MovesAreFiring.{ins_of, outs_of, Safe, Rising, rising_lists, marked_each, apart_each}
 
 -- A test of every element is a test at every index.
@@ -122,7 +122,7 @@ counts_puts w (p ∷ ps) h =
     (subst (λ (n : ℕ). get_or w q 0 + n ≤ 1) (count_other q p ps (λ e. other (sym e))) (h q (subst (λ (n : ℕ). 1 ≤ n) (sym (count_other q p ps (λ e. other (sym e)))) k)))))
 
 hold_of : (w ps : List ℕ) → ((q : ℕ) → 1 ≤ count q ps → get_or w q 0 ≡ 0) → hold 0 w ps ≡ true
-hold_of w ps h = T_true (hold 0 w ps) (all_of (λ p. eqb (get_or w p 0) 0) ps (λ q i. subst (λ (n : ℕ). T (eqb n 0)) (sym (h q (member_count q ps i))) tt))
+hold_of w ps h = hold_is_all 0 w ps ∙ T_true _ (all_of (λ p. eqb (get_or w p 0) 0) ps (λ q i. subst (λ (n : ℕ). T (eqb n 0)) (sym (h q (member_count q ps i))) tt))
 
 module _ (m : List ℕ) (ts : List Transition) (safe : Safe m) (r : Rising (length m) ts) where
   -- the marking with the inputs taken, and the places that are given to

@@ -1,2 +1,3 @@
+pub mod Net
 pub mod Says
 pub mod inner

@@ -1,8 +1,8 @@
 -- What the answer of firing says, case by case: 01's number and values.
-use Rattle.field.specs.Answer.{Answer, good, refused}
-use Rattle.moving.specs.declared.Fired.{Fired}
-use Rattle.moving.specs.declared.Fired.TheVariants.{Done, Refused}
+use Rattle.std.specs.Prelude.{Result}
+use Rattle.field.specs.Answer.{Answer}
+use Rattle.field.specs.Says.{says}
+use Rattle.field.specs.declared.Refusal.{Refusal}
 
-abbrev pub fired_says : Fired → Answer (Unit {0})
-fired_says Done = good tt
-fired_says (Refused n c) = refused n c
+abbrev pub fired_says : Result (Unit {0}) Refusal → Answer (Unit {0})
+fired_says = says (λ u. u)

@@ -3,183 +3,141 @@
 // the same number before, so that a pass which puts that number there leaves the marking as it was.
 #![tactic(auto)]
 
-ghost use Rattle.std.specs.Prelude.{◌≡◌, Bool, true, false, ℕ, ◌+◌, ◌*◌, ◌<◌, ◌≤◌, length, get_or};
+ghost use Rattle.std.specs.Prelude.{◌≡◌, true, ℕ, ◌<◌, ◌≤◌, length, get_or, not, position, All, MatchResult, OnOk};
 ghost use Rattle.algebra.specs.Firing.{count};
-ghost use Rattle.net.specs.inner.Chains.{in_row};
-ghost use Rattle.moving.specs.inner.Moving.{side_of, sides, Below, Fits, AllFit, hold, holds_each, filled, shifts, shifts_each, in_one, moves};
-ghost use Rattle.moving.specs.inner.Moves.{Moves};
+ghost use Rattle.net.specs.declared.Side.TheVariants.{Inputs, Outputs};
+ghost use Rattle.moving.specs.inner.InOrder.{InOrder};
+ghost use Rattle.moving.specs.inner.Moving.{hold, filled, shifts_each, in_one, moves};
 
-// The two sides of a transition: the places that it consumes from, and those that it produces into.
-pub const INPUTS: bool = false;
+use field::{Fault, Refusal};
+use net::{Lent, Row, Side};
 
-const OUTPUTS: bool = true;
+mod places;
 
-pub fn wide(x: u16) -> usize
-    ensures { (result ≡ x) × (result < 65536) }
-{
-    x as usize
-}
-
-// Done, or the refusal with what it carries.
+/// The rows and arcs of a net that is in order: check 30 was passed, or the net was made from a plan.
 #[derive(Clone, Copy)]
-pub enum Fired {
-    Done,
-    Refused(usize, usize),
+pub struct Net<'a> {
+    pub rows: &'a [u16],
+    pub arcs: &'a [u16],
+    pub places: usize,
+    pub transitions: usize,
+    ghost in_order: { InOrder rows.now arcs.now transitions places },
 }
 
-// The places on one side of transition t.
-pub fn side<'a>(rows: &[u16], arcs: &'a [u16], t: usize, out: bool) -> &'a [u16]
-    requires { (6 * t + 6 ≤ length rows.now) × (in_row rows.now t 3 + (in_row rows.now t 4 + in_row rows.now t 5) ≤ length arcs.now) }
-    ensures { result.now ≡ side_of out rows.now arcs.now t }
-{
-    let start = net::number(rows, t, 3);
-    let middle = start + net::number(rows, t, 4);
-    if out {
-        let end = middle + net::number(rows, t, 5);
-        return &arcs[middle..end];
-    }
-    &arcs[start..middle]
-}
+impl<'a> Net<'a> {
+    ghost use Rattle.net.specs.Check.{is_net};
+    ghost use Rattle.net.specs.Tables.{transitions_in};
+    ghost use Rattle.net.specs.Lent.{tables_lent};
+    ghost use Rattle.moving.specs.inner.Moves.{Moves};
+    ghost use Rattle.moving.specs.Net.{transitions_of, places_of, item_places};
 
-// Every place of a list holds so many tokens.
-pub fn all_hold(marking: &[u8], places: &[u16], tokens: u8) -> bool
-    requires { Below (length marking.now) places.now }
-    ensures { result ≡ hold tokens marking.now places.now }
-{
-    let mut i = 0;
-    while i < places.len() {
-        let p = wide(places[i]);
-        if marking[p] == tokens {
-            i += 1;
-        } else {
-            return false;
+    /// The net that lent tables are which passed check 30.
+    pub fn lent(lent: &Lent<'a>) -> Self
+        requires { is_net (tables_lent lent.now) ≡ true }
+        ensures tables { (result.rows ≡ lent.now.rows) × (result.arcs ≡ lent.now.arcs) }
+        ensures counts { (result.places ≡ lent.now.places) × (result.transitions ≡ lent.now.transitions) }
+        ensures transitions { transitions_of result ≡ transitions_in (tables_lent lent.now) }
+    {
+        Net {
+            rows: lent.rows,
+            arcs: lent.arcs,
+            places: lent.places,
+            transitions: lent.transitions,
         }
     }
-    true
-}
 
-// So many tokens at each place of a list.
-fn fill(marking: &mut [u8], places: &[u16], tokens: u8)
-    requires { Below (length marking.old) places.now }
-    ensures { marking.new ≡ filled tokens marking.old places.now }
-{
-    let mut i = 0;
-    while i < places.len() {
-        let p = wide(places[i]);
-        marking[p] = tokens;
-        i += 1;
-    }
-}
-
-// From so many tokens to so many at each place of a list, or false at the first that holds another number.
-fn shift(marking: &mut [u8], places: &[u16], from: u8, to: u8) -> bool
-    requires { Below (length marking.old) places.now }
-    ensures value { result ≡ shifts from to marking.old places.now }
-    ensures marking_after { result ≡ true → marking.new ≡ filled to marking.old places.now }
-    ensures by_index { (q : ℕ) → count q places.now ≡ 0 → get_or marking.new q 0 ≡ get_or marking.old q 0 }
-{
-    let mut i = 0;
-    while i < places.len() {
-        let p = wide(places[i]);
-        if marking[p] == from {
-            marking[p] = to;
-            i += 1;
-        } else {
-            return false;
+    /// The places on one side of transition t.
+    pub fn side(self, t: usize, side: Side) -> &'a [u16]
+        requires { t < self.transitions }
+        ensures value { result.now ≡ places_of self.entry side t }
+        ensures below { All (λ p. p < self.entry.places) result.now }
+    {
+        let row = Row::at(self.rows, t);
+        let start = usize::from(row.start);
+        let middle = start + usize::from(row.inputs);
+        match side {
+            Side::Inputs => &self.arcs[start..middle],
+            Side::Outputs => &self.arcs[middle..middle + usize::from(row.outputs)],
         }
     }
-    true
-}
 
-// How many items come before the first that has, on one side, a place with another number of tokens.
-fn items_holding(
-    rows: &[u16],
-    arcs: &[u16],
-    marking: &[u8],
-    ts: &[u16],
-    out: bool,
-    tokens: u8,
-) -> usize
-    requires { AllFit rows.now arcs.now (length marking.now) ts.now }
-    ensures { result ≡ holds_each tokens marking.now (sides out rows.now arcs.now ts.now) }
-{
-    let mut i = 0;
-    while i < ts.len() {
-        let t = wide(ts[i]);
-        let places = side(rows, arcs, t, out);
-        if all_hold(marking, places, tokens) {
-            i += 1;
-        } else {
-            return i;
+    /// Every place on one side of transition t holds so many tokens.
+    pub fn holds(self, marking: &[u8], t: usize, side: Side, tokens: u8) -> bool
+        requires t_below { t < self.transitions }
+        requires marking_length { length marking.now ≡ self.places }
+        ensures { result ≡ hold tokens marking.now (places_of self.entry side t) }
+    {
+        places::all_hold(marking, self.side(t, side), tokens)
+    }
+
+    // The first item that has, on one side, a place with another number of tokens.
+    fn first_unlike(self, marking: &[u8], ts: &[u16], side: Side, tokens: u8) -> Option<usize>
+        requires marking_length { length marking.now ≡ self.places }
+        requires ts_below { All (λ t. t < self.transitions) ts.now }
+        ensures { result ≡ position (λ t. not (hold tokens marking.now (places_of self.entry side t))) ts.now }
+    {
+        ts.iter()
+            .position(|&t| !self.holds(marking, usize::from(t), side, tokens))
+    }
+
+    // So many tokens at each place on one side of the items.
+    fn fill(self, marking: &mut [u8], ts: &[u16], side: Side, tokens: u8)
+        requires marking_length { length marking.old ≡ self.places }
+        requires ts_below { All (λ t. t < self.transitions) ts.now }
+        ensures { marking.new ≡ filled tokens marking.old (in_one (item_places self.entry side ts.now)) }
+    {
+        for &t in ts {
+            places::fill(marking, self.side(usize::from(t), side), tokens);
         }
     }
-    i
-}
 
-// So many tokens at each place on one side of the items.
-fn fill_items(rows: &[u16], arcs: &[u16], marking: &mut [u8], ts: &[u16], out: bool, tokens: u8)
-    requires { AllFit rows.now arcs.now (length marking.old) ts.now }
-    ensures { marking.new ≡ filled tokens marking.old (in_one (sides out rows.now arcs.now ts.now)) }
-{
-    let mut i = 0;
-    while i < ts.len() {
-        let t = wide(ts[i]);
-        fill(marking, side(rows, arcs, t, out), tokens);
-        i += 1;
-    }
-}
-
-// How many items come before the first of which not every place on one side goes from so many tokens to so many.
-fn shift_items(
-    rows: &[u16],
-    arcs: &[u16],
-    marking: &mut [u8],
-    ts: &[u16],
-    out: bool,
-    from: u8,
-    to: u8,
-) -> usize
-    requires { AllFit rows.now arcs.now (length marking.old) ts.now }
-    ensures value { result ≡ shifts_each from to marking.old (sides out rows.now arcs.now ts.now) }
-    ensures marking_after { length ts.now ≤ result → marking.new ≡ filled to marking.old (in_one (sides out rows.now arcs.now ts.now)) }
-    ensures by_index { (q : ℕ) → count q (in_one (sides out rows.now arcs.now ts.now)) ≡ 0 → get_or marking.new q 0 ≡ get_or marking.old q 0 }
-{
-    let mut i = 0;
-    while i < ts.len() {
-        let t = wide(ts[i]);
-        if shift(marking, side(rows, arcs, t, out), from, to) {
-            i += 1;
-        } else {
-            return i;
+    // From so many tokens to so many at each place on one side of the items, or the first item of which that is not so.
+    fn shift(
+        self,
+        marking: &mut [u8],
+        ts: &[u16],
+        side: Side,
+        from: u8,
+        to: u8,
+    ) -> Result<(), usize>
+        requires marking_length { length marking.old ≡ self.places }
+        requires ts_below { All (λ t. t < self.transitions) ts.now }
+        ensures value { MatchResult result (λ u. length ts.now ≤ shifts_each from to marking.old (item_places self.entry side ts.now)) (λ i. (i ≡ shifts_each from to marking.old (item_places self.entry side ts.now)) × (i < length ts.now)) }
+        ensures marking_after { OnOk result (marking.new ≡ filled to marking.old (in_one (item_places self.entry side ts.now))) }
+        ensures by_index { (q : ℕ) → count q (in_one (item_places self.entry side ts.now)) ≡ 0 → get_or marking.new q 0 ≡ get_or marking.old q 0 }
+    {
+        for (i, &t) in ts.iter().enumerate() {
+            if !places::shift(marking, self.side(usize::from(t), side), from, to) {
+                return Err(i);
+            }
         }
+        Ok(())
     }
-    i
-}
 
-// The tokens of a step's items at the net's part of a marking: 32, 33, 36.
-pub fn move_tokens(rows: &[u16], arcs: &[u16], marking: &mut [u8], ts: &[u16]) -> Fired
-    requires { AllFit rows.now arcs.now (length marking.old) ts.now }
-    ensures { Moves result marking.old marking.new (moves marking.old (sides false rows.now arcs.now ts.now) (sides true rows.now arcs.now ts.now)) }
-{
-    let empty = items_holding(rows, arcs, marking, ts, INPUTS, 1);
-    if empty < ts.len() {
-        return Fired::Refused(field::INPUT_EMPTY, empty);
+    /// The tokens of a step's items at the net's part of a marking: 32, 33, 36.
+    pub fn move_tokens(self, marking: &mut [u8], ts: &[u16]) -> Result<(), Refusal>
+        requires marking_length { length marking.old ≡ self.places }
+        requires ts_below { All (λ t. t < self.transitions) ts.now }
+        ensures { Moves result marking.old marking.new (moves marking.old (item_places self.entry Inputs ts.now) (item_places self.entry Outputs ts.now)) }
+    {
+        if let Some(item) = self.first_unlike(marking, ts, Side::Inputs, 1) {
+            return Err(Fault::InputEmpty.at(item));
+        }
+        // From here on every input is known to have held one token.
+        if let Err(item) = self.shift(marking, ts, Side::Inputs, 1, 0) {
+            self.fill(marking, ts, Side::Inputs, 1);
+            return Err(Fault::InputShared.at(item));
+        }
+        if self.first_unlike(marking, ts, Side::Outputs, 0).is_some() {
+            self.fill(marking, ts, Side::Inputs, 1);
+            return Err(Fault::TwoTokens.at(0));
+        }
+        // And every output to have held none once the inputs were taken.
+        if self.shift(marking, ts, Side::Outputs, 0, 1).is_err() {
+            self.fill(marking, ts, Side::Outputs, 0);
+            self.fill(marking, ts, Side::Inputs, 1);
+            return Err(Fault::TwoTokens.at(0));
+        }
+        Ok(())
     }
-    // From here on every input is known to have held one token.
-    let shared = shift_items(rows, arcs, marking, ts, INPUTS, 1, 0);
-    if shared < ts.len() {
-        fill_items(rows, arcs, marking, ts, INPUTS, 1);
-        return Fired::Refused(field::INPUT_SHARED, shared);
-    }
-    if items_holding(rows, arcs, marking, ts, OUTPUTS, 0) < ts.len() {
-        fill_items(rows, arcs, marking, ts, INPUTS, 1);
-        return Fired::Refused(field::TWO_TOKENS, 0);
-    }
-    // And every output to have held none once the inputs were taken.
-    if shift_items(rows, arcs, marking, ts, OUTPUTS, 0, 1) < ts.len() {
-        fill_items(rows, arcs, marking, ts, OUTPUTS, 0);
-        fill_items(rows, arcs, marking, ts, INPUTS, 1);
-        return Fired::Refused(field::TWO_TOKENS, 0);
-    }
-    Fired::Done
 }

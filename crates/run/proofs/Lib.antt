@@ -2,4 +2,5 @@ pub mod StepsTaken
 pub mod RunsOn
 pub mod RunEnds
 pub mod Determined
+pub mod KnownVerdicts
 pub mod TheOneRun

@@ -1,60 +1,68 @@
-// 01, "Refusal numbers": "Then the buffer gets the entry marking and each step in turn". A run of a record's steps on the rows and arcs of a
-// net that is known to be in order, from a marking on.
+// 01, "Refusal numbers": "Then the buffer gets the entry marking and each step in turn". A run of a record's steps on a net that is in order,
+// from a marking on.
 #![tactic(auto)]
 
 ghost use Rattle.std.specs.Prelude.{◌≡◌, true, ◌+◌, ◌≤◌, length, leb};
 ghost use Rattle.field.specs.Lists.{all};
 ghost use Rattle.algebra.specs.Net.{Net};
 ghost use Rattle.form.specs.Form.{read_steps};
-ghost use Rattle.moving.specs.inner.InOrder.{transitions_within, InOrder};
+ghost use Rattle.moving.specs.Net.{transitions_of};
 ghost use Rattle.run.specs.Run.{run};
 ghost use Rattle.run.specs.Says.{ran_says};
 
-use steps::Place;
+use field::Refusal;
+use std::error::Error;
+use std::fmt;
+use step::firing::Indexed;
 
 mod exits;
 mod steps;
 
-// How the steps of a record end: all of them fired, with all exits marked or not; or the refusal, what it carries and the accepted steps.
-#[derive(Clone, Copy)]
+/// How a record's steps end where all of them fired: with all exits marked or not, after so many steps.
+#[derive(Clone, Copy, Debug, PartialEq, Eq)]
 pub enum Ran {
     Finished(usize),
     Unfinished(usize),
-    Refused(usize, usize, usize),
 }
 
-// Runs a whole record. The index and the room for a step's items are made here, once, so that a step costs only its items and their arcs.
+impl fmt::Display for Ran {
+    fn fmt<W: fmt::Write>(&self, f: &mut fmt::Formatter<W>) -> fmt::Result {
+        match self {
+            Ran::Finished(steps) => write!(f, "finished {}", steps),
+            Ran::Unfinished(steps) => write!(f, "unfinished {}", steps),
+        }
+    }
+}
+
+/// A refusal, and the number of accepted steps before it.
+#[derive(Clone, Copy, Debug, PartialEq, Eq)]
+pub struct Stopped {
+    pub refusal: Refusal,
+    pub steps: usize,
+}
+
+impl fmt::Display for Stopped {
+    fn fmt<W: fmt::Write>(&self, f: &mut fmt::Formatter<W>) -> fmt::Result {
+        write!(f, "{} after {}", self.refusal, self.steps)
+    }
+}
+
+impl Error for Stopped {}
+
+/// Runs a whole record. The index is made here, once, so that a step costs only its items and their arcs.
 pub fn run_record(
-    rows: &[u16],
-    arcs: &[u16],
-    transitions: usize,
+    net: moving::Net,
     exits_from: usize,
     record: &[u8],
     marking: &mut [u8],
-) -> Ran
-    requires in_order { InOrder rows.now arcs.now transitions (length marking.old) }
+) -> Result<Ran, Stopped>
+    requires marking_length { length marking.old ≡ net.places }
     requires marking_value { all (λ x. leb x 1) marking.old ≡ true }
     requires exits_from_in_bounds { exits_from ≤ length marking.old }
-    ensures { (N : Net) → N.transitions ≡ transitions_within rows.now arcs.now transitions → N.entries + N.internals ≡ exits_from → (ran_says result ≡ (run N 0 marking.old (read_steps 0 0 «record».now)).verdict) × (marking.new ≡ (run N 0 marking.old (read_steps 0 0 «record».now)).marking) }
+    ensures { (N : Net) → N.transitions ≡ transitions_of net.entry → N.entries + N.internals ≡ exits_from → (ran_says result ≡ (run N 0 marking.old (read_steps 0 0 «record».now)).verdict) × (marking.new ≡ (run N 0 marking.old (read_steps 0 0 «record».now)).marking) }
 {
-    let mut head = net::no_heads();
-    let mut next = net::no_nexts();
-    net::index_by_first(rows, transitions, &mut head, &mut next);
-    let mut firsts = form::no_numbers();
-    let mut seconds = form::no_numbers();
-    let mut ts = form::no_numbers();
-    steps::run_steps(
-        rows,
-        arcs,
-        transitions,
-        exits_from,
-        &head,
-        &next,
-        record,
-        Place { at: 0, steps: 0 },
-        &mut firsts,
-        &mut seconds,
-        &mut ts,
-        marking,
-    )
+    let mut index = net::Index::new();
+    net::index_by_first(net.rows, net.transitions, &mut index);
+    let indexed = Indexed { net, index: &index };
+    steps::run_steps(indexed, exits_from, record, marking)
 }

@@ -1,41 +1,53 @@
 -- `fire` asks nothing, and its contract determines its answer and what it leaves in the marking.
--- The contract equates both with a function of the input, and no two answers of the code say the same.
+-- The contract equates both with a function of the input, no two answers of the code say the same, and each answer of the function is said.
+use Prim.Native.Nat.{ℕ}
 use mathlib.Core.Path.{◌≡◌, refl, sym, ◌∙◌}
+use mathlib.Core.List.{List}
+use lib.ListN.{take}
 use contract.Lifetimes.{Lfts}
 use borrow.Fn.Kinds.{Dens}
+use Rattle.std.specs.Prelude.{Result}
 use Rattle.field.specs.Answer.{Answer, good, refused}
-use Rattle.field.proofs.Answers.{good_not_refused, two_refusals}
+use Rattle.field.specs.declared.Refusal.{Refusal}
 use Rattle.field.proofs.OneResult.{One, Allowed, Answered}
-use Rattle.net.specs.Lent.{lent}
+use Rattle.net.specs.Tables.{Tables, transitions_in}
+use Rattle.net.specs.Lent.{tables_lent}
+use Rattle.form.specs.Form.{read_lent_step}
 use Rattle.moving.specs.Says.{fired_says}
-use Rattle.moving.specs.declared.Fired.{Fired}
-use Rattle.moving.specs.declared.Fired.TheVariants as fired
-use Rattle.step.specs.Fire.{fire}
+use Rattle.moving.proofs.Faults.{said_once, known_said, IsKnown, bind_known, net_known, marking_known}
+use Rattle.step.specs.Fire.{fire_step, fired, fire}
+use Rattle.step.proofs.KnownRefusals.{lent_known, fire_known}
 use Rattle.step.proofs.fire.Kinds as fire-kinds
 use Rattle.step.proofs.fire.Reads as fire-reads
 
-fired_once : (r q : Fired) → fired_says r ≡ fired_says q → r ≡ q
-fired_once fired.Done fired.Done e = refl
-fired_once fired.Done (fired.Refused n c) e = good_not_refused (good tt) tt n c refl e
-fired_once (fired.Refused n c) fired.Done e = good_not_refused (good tt) tt n c refl (sym e)
-fired_once (fired.Refused n c) (fired.Refused k d) e = two_refusals {A = Unit {0}} fired.Refused n c k d e
+fired_once : (r q : Result (Unit {0}) Refusal) → fired_says r ≡ fired_says q → r ≡ q
+fired_once r q e = said_once (λ u. u) (λ x y p. p) r q e
 
-fired_said : (a : Answer (Unit {0})) → (r : Fired) × (fired_says r ≡ a)
-fired_said (good u) = (fired.Done, refl)
-fired_said (refused n c) = (fired.Refused n c, refl)
+-- what `fire` answers is said by the code
+step_answers : (T : Tables) (m s : List ℕ) → IsKnown (fire_step T m s)
+unfolding fire_step
+step_answers T m s = net_known T _ (marking_known T.places m _ (bind_known (read_lent_step s) _ (lent_known s) (λ is. fire_known (transitions_in T) (take T.places m) is)))
 
-pub fire_answered : Answered 5 fire-kinds.ps fire-kinds.r fire-reads.Asked fire-reads.Post
+fired_known : (T : Tables) (m : List ℕ) (a : Answer (List ℕ)) → IsKnown a → IsKnown (fired T m a).answer
+fired_known T m (good l) k = tt
+fired_known T m (refused n c) k = k
+
+fired_said : (T : Tables) (m s : List ℕ) → (r : Result (Unit {0}) Refusal) × (fired_says r ≡ (fire T m s).answer)
+unfolding fire
+fired_said T m s = known_said (λ u. u) (λ u. (u, refl)) (fired T m (fire_step T m s)).answer (fired_known T m (fire_step T m s) (step_answers T m s))
+
+pub fire_answered : Answered 4 fire-kinds.ps fire-kinds.r fire-reads.Asked fire-reads.Post
 fire_answered = record { free = λ κs a. tt; one = one }
   where
-    one : (κs : Lfts 5) (a : Dens κs fire-kinds.ps) → One (Allowed 5 fire-kinds.ps fire-kinds.r fire-reads.Post κs a)
+    one : (κs : Lfts 4) (a : Dens κs fire-kinds.ps) → One (Allowed 4 fire-kinds.ps fire-kinds.r fire-reads.Post κs a)
     one κs a =
-        let T = lent a.0.now a.1.0.now a.1.1.0.now a.1.1.1.0 a.1.1.1.1.0 a.1.1.1.1.1.0 in
-        let f = fire T a.1.1.1.1.1.1.0.now a.1.1.1.1.1.1.1.0.now in
-        let r = fired_said f.answer in
+        let T = tables_lent a.0.now in
+        let f = fire T a.1.0.now a.1.1.0.now in
+        let r = fired_said T a.1.0.now a.1.1.0.now in
         record {
-          some = ((r.0, (tt, (tt, (tt, (tt, (tt, (tt, (f.marking, (tt, tt))))))))), (r.1, refl));
+          some = ((r.0, (tt, (f.marking, (tt, tt)))), (r.1, refl));
           only = λ x y p q.
               let r = fired_once x.0 y.0 (p.0 ∙ sym q.0) in
               let m = p.1 ∙ sym q.1 in
-              λ i. (r i, (tt, (tt, (tt, (tt, (tt, (tt, (m i, (tt, tt)))))))));
+              λ i. (r i, (tt, (m i, (tt, tt))));
         }

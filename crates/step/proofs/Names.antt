@@ -9,19 +9,21 @@ use native.Mathlib.Numerals.{add-one}
 use native.Mathlib.Omega.{arith}
 use borrow.Author.Tests.{eqb-true, eqb-false, eq-eqb, ne_eqb, lt-ltb, le-ltb}
 use lib.ListN.{length, get_or, set, take, drop, drop_of_length-le}
-use lib.Seq.{drop-cons, take-suc-set}
+use lib.Seq.{drop-cons, take-suc-set, take_all, get_or-set_same, get_or-set_other}
 use lib.Dec.{eqb, ltb}
 use Rattle.field.specs.Refusals.{no_transition}
 use Rattle.field.specs.Answer.{good, refused}
-use Rattle.algebra.specs.Item.{same_item}
+use Rattle.algebra.specs.Item.{Item, same_item}
 use Rattle.algebra.specs.Net.{Transition}
 use Rattle.algebra.specs.Firing.{names, named_by, transitions_named}
 use Rattle.net.specs.Tables.{none, item_of, transition_at, transitions_from}
-use Rattle.form.specs.inner.FormSays.{paired}
+use Rattle.std.specs.Prelude.{None, Some}
+use Rattle.form.specs.inner.FormSays.{code_item}
+use Rattle.form.specs.declared.Item as code
 use Rattle.net.specs.inner.Chains.{in_row, with_first, Chains}
 use Rattle.net.proofs.Walks.{ahead, Stands, walk_starts, walk_goes_on, walk_ends}
 use Rattle.moving.specs.inner.InOrder.{rows_and_arcs, transition_in, transitions_within}
-use Rattle.step.specs.inner.Naming.{seek, seek_in, found_says}
+use Rattle.step.specs.inner.Naming.{seek, seek_in, Found, ItemFound, ItemMissed}
 use Rattle.field.proofs.Tests.{test}
 use Rattle.form.proofs.ItemLists.{behind, behind_behind}
 
@@ -98,42 +100,46 @@ module _ (rows arcs : List ℕ) (i j : ℕ) where
   pub named_none : (at n t : ℕ) → t ≡ seek rows i j 0 n → n ≤ t → named_by at (item_of i j) (transitions_within rows arcs n) ≡ refused no_transition at
   named_none at n t e h = named_from at 0 n ∙ rw (← e, le-ltb t (0 + n) (omega arith))
 
-pair_next : (firsts seconds : List ℕ) (k : ℕ) → length firsts ≡ length seconds → k < length firsts
-    → paired (drop k firsts) (drop k seconds) ≡ item_of (get_or firsts k 0) (get_or seconds k 0) ∷ paired (drop (k + 1) firsts) (drop (k + 1) seconds)
-unfolding paired
-pair_next firsts seconds k l h = let g : k < length seconds = omega arith in rw (add-one, drop-cons firsts k 0 h, drop-cons seconds k 0 g)
+-- What the search found is what an item names whose actions have these numbers.
+module _ (rows arcs : List ℕ) (n i j : ℕ) (item : Item) (same : item ≡ item_of i j) (t : ℕ) (e : t ≡ seek rows i j 0 n) where
+  pub found_some : t < n → Found rows arcs n item (Some t)
+  found_some h = (h, λ at. ap (λ (k : Item). named_by at k (transitions_within rows arcs n)) same ∙ named_found rows arcs i j at n t e h)
 
-pair_end : (firsts seconds : List ℕ) (k : ℕ) → length firsts ≤ k → paired (drop k firsts) (drop k seconds) ≡ []
-unfolding paired
-pair_end firsts seconds k h = rw (drop_of_length-le firsts h)
+  pub found_none : n ≤ t → Found rows arcs n item None
+  found_none h at = ap (λ (k : Item). named_by at k (transitions_within rows arcs n)) same ∙ named_none rows arcs i j at n t e h
 
 map_snoc : {A B : Type 0} (f : A → B) (xs : List A) (x : A) → map f (xs ++ (x ∷ [])) ≡ map f xs ++ (f x ∷ [])
 map_snoc f [] x = refl
 map_snoc f (y ∷ xs) x = ap (λ (l : List _). f y ∷ l) (map_snoc f xs x)
 
 -- The loop over the items stands at item k; those before it name the transitions that stand in a list.
-module _ (rows arcs firsts seconds : List ℕ) (n k : ℕ) (ts : List ℕ) (l : length firsts ≡ length seconds)
-    (inv : transitions_named (transitions_within rows arcs n) 0 (paired firsts seconds)
-    ≡ behind (map (transition_in rows arcs) (take k ts)) (transitions_named (transitions_within rows arcs n) k (paired (drop k firsts) (drop k seconds)))) where
-  pub naming_end : k ≤ length firsts → length firsts ≤ k → found_says rows arcs (length firsts) k ts ≡ transitions_named (transitions_within rows arcs n) 0 (paired firsts seconds)
+module _ (rows arcs : List ℕ) (items : List code.Item) (n k : ℕ) (ts : List ℕ)
+    (inv : transitions_named (transitions_within rows arcs n) 0 (map code_item items)
+    ≡ behind (map (transition_in rows arcs) (take k ts)) (transitions_named (transitions_within rows arcs n) k (map code_item (drop k items)))) where
+  pub naming_end : length items ≤ k → length ts ≤ k → ItemFound rows arcs n (map code_item items) ts
   unfolding transitions_named
-  naming_end g h =
-      let e : length firsts ≡ k = omega arith in
-      sym (inv ∙ rw (pair_end firsts seconds k h, append-nil (map (transition_in rows arcs) (take k ts)), e, le-ltb k k (omega arith)))
+  naming_end h l = inv ∙ rw (drop_of_length-le items h, take_all k ts l, append-nil (map (transition_in rows arcs) ts))
 
-  module _ (h : k < length firsts) (i j : ℕ) (p : i ≡ get_or firsts k 0) (q : j ≡ get_or seconds k 0) (t : ℕ) (e : t ≡ seek rows i j 0 n) where
-    here : paired (drop k firsts) (drop k seconds) ≡ item_of i j ∷ paired (drop (k + 1) firsts) (drop (k + 1) seconds)
-    here = pair_next firsts seconds k l h ∙ rw (p, q)
+  module _ (h : k < length items) (item : code.Item) (p : item ≡ get_or items k (record { first = 0; second = None })) where
+    here : map code_item (drop k items) ≡ code_item item ∷ map code_item (drop (k + 1) items)
+    here = rw (drop-cons items k (record { first = 0; second = None }) h, ← p, add-one)
 
-    pub naming_none : n ≤ t → found_says rows arcs (length firsts) k ts ≡ transitions_named (transitions_within rows arcs n) 0 (paired firsts seconds)
+    pub naming_none : Found rows arcs n (code_item item) None → ItemMissed rows arcs n (map code_item items) k
     unfolding transitions_named
-    naming_none g = sym (inv ∙ rw (here, named_none rows arcs i j k n t e g, lt-ltb k (length firsts) h))
+    naming_none f = inv ∙ rw (here, f k)
 
-    pub naming_turn : t < n → k < length ts → transitions_named (transitions_within rows arcs n) 0 (paired firsts seconds)
-        ≡ behind (map (transition_in rows arcs) (take (k + 1) (set ts k t))) (transitions_named (transitions_within rows arcs n) (k + 1) (paired (drop (k + 1) firsts) (drop (k + 1) seconds)))
+    pub naming_turn : (t : ℕ) → Found rows arcs n (code_item item) (Some t) → k < length ts → transitions_named (transitions_within rows arcs n) 0 (map code_item items)
+        ≡ behind (map (transition_in rows arcs) (take (k + 1) (set ts k t))) (transitions_named (transitions_within rows arcs n) (k + 1) (map code_item (drop (k + 1) items)))
     unfolding transitions_named
-    naming_turn g m =
-        inv ∙ rw (here, named_found rows arcs i j k n t e g)
-        (behind_behind (map (transition_in rows arcs) (take k ts)) (transition_in rows arcs t ∷ []) (transitions_named (transitions_within rows arcs n) (suc k) (paired (drop (k + 1) firsts) (drop (k + 1) seconds)))
-        ∙ ap₂ (λ (us : List Transition) (m : ℕ). behind us (transitions_named (transitions_within rows arcs n) m (paired (drop (k + 1) firsts) (drop (k + 1) seconds))))
+    naming_turn t f m =
+        inv ∙ rw (here, f.1 k)
+        (behind_behind (map (transition_in rows arcs) (take k ts)) (transition_in rows arcs t ∷ []) (transitions_named (transitions_within rows arcs n) (suc k) (map code_item (drop (k + 1) items)))
+        ∙ ap₂ (λ (us : List Transition) (m : ℕ). behind us (transitions_named (transitions_within rows arcs n) m (map code_item (drop (k + 1) items))))
         (sym (ap (map (transition_in rows arcs)) (ap (λ (m : ℕ). take m (set ts k t)) (add-one k) ∙ take-suc-set ts k t m) ∙ map_snoc (transition_in rows arcs) (take k ts) t)) (sym (add-one k)))
+
+-- One more number below a limit is stored.
+pub below_set : (ts : List ℕ) (k t n : ℕ) → k < length ts → ((i d : ℕ) → i < k → get_or ts i d < n) → t < n → (i d : ℕ) → i < k + 1 → get_or (set ts k t) i d < n
+below_set ts k t n h below lt i d l =
+    test (eqb i k)
+    (λ e. subst (λ (j : ℕ). get_or (set ts k t) j d < n) (sym (eqb-true i k e)) (subst (λ (x : ℕ). x < n) (sym (get_or-set_same ts k t d h)) lt))
+    (λ e. let ne : i ≡ k → ⊥ = eqb-false i k e in subst (λ (x : ℕ). x < n) (sym (get_or-set_other ts k i t d ne)) (below i d (omega arith)))

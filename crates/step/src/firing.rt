@@ -1,135 +1,98 @@
 // Finds the transitions that a step's items name, and fires them: 31, and then 32, 33, 36; for a lent step, behind its form.
-ghost use Rattle.std.specs.Prelude.{◌≡◌, true, List, ℕ, ◌*◌, ◌<◌, ◌≤◌, length, get_or, leb};
+ghost use Rattle.std.specs.Prelude.{◌≡◌, true, ◌<◌, length, map, leb, All, MatchResult, OnOk};
 ghost use Rattle.field.specs.Lists.{all};
-ghost use Rattle.algebra.specs.Firing.{transitions_named, fire_items};
+ghost use Rattle.net.specs.Tables.{item_of};
 ghost use Rattle.net.specs.inner.Chains.{Chains};
-ghost use Rattle.form.specs.inner.FormSays.{paired, Bytes};
-ghost use Rattle.moving.specs.inner.InOrder.{transitions_within, InOrder};
-ghost use Rattle.step.specs.inner.Naming.{seek, found_says};
-ghost use Rattle.moving.specs.inner.Moves.{Moves};
-ghost use Rattle.step.specs.inner.Reads.{read_and_fire};
+ghost use Rattle.step.specs.inner.Walks.{Chains-prop};
+ghost use Rattle.form.specs.inner.FormSays.{code_item};
 
-use form::ItemsAnswer;
-use moving::Fired;
+use field::{Fault, Refusal};
+use form::{Item, MOST_ITEMS, no_items, read_lent_step};
+use moving::Net;
+use net::{Index, Row};
 
-// The transition, of so many, that has these two actions; the number of transitions where there is none. Only the chain of the first
-// action is walked.
-fn find(
-    rows: &[u16],
-    transitions: usize,
-    head: &[u16; field::ACTION_LIMIT],
-    next: &[u16; field::TRANSITION_LIMIT],
-    first: usize,
-    second: usize,
-) -> usize
-    requires first_bound { (first < 256) × (transitions ≤ 1024) × (6 * transitions ≤ length rows.now) }
-    requires chains { Chains rows.now transitions head.now next.now }
-    ensures { result ≡ seek rows.now first second 0 transitions }
+// 01, "Net tables": "second action or 65,535".
+fn second_number(item: Item) -> usize
+    ensures { code_item item ≡ item_of item.first result }
 {
-    let mut t = moving::wide(head[first]);
-    while t < transitions {
-        if second == net::number(rows, t, 2) {
-            return t;
-        } else {
-            t = moving::wide(next[t]);
-        }
+    match item.second {
+        Some(second) => usize::from(second),
+        None => field::NO_SECOND,
     }
-    transitions
 }
 
-// How many items come before the first that names no transition. What the others name is written.
-fn find_items(
-    rows: &[u16],
-    transitions: usize,
-    head: &[u16; field::ACTION_LIMIT],
-    next: &[u16; field::TRANSITION_LIMIT],
-    firsts: &[u16],
-    seconds: &[u16],
-    ts: &mut [u16],
-) -> usize
-    requires transitions_bound { (transitions ≤ 1024) × (6 * transitions ≤ length rows.now) × Chains rows.now transitions head.now next.now }
-    requires firsts_len { (length firsts.now ≡ length seconds.now) × (length firsts.now ≡ length ts.old) × Bytes (length firsts.now) firsts.now }
-    ensures says { (arcs : List ℕ) → found_says rows.now arcs (length firsts.now) result ts.new ≡ transitions_named (transitions_within rows.now arcs transitions) 0 (paired firsts.now seconds.now) }
-    ensures fits { length firsts.now ≤ result → (i : ℕ) → i < length firsts.now → get_or ts.new i 0 < transitions }
-{
-    let mut i = 0;
-    while i < firsts.len() {
-        let t = find(
-            rows,
-            transitions,
-            head,
-            next,
-            moving::wide(firsts[i]),
-            moving::wide(seconds[i]),
-        );
-        if t < transitions {
+/// A net that is in order, with the index of its transitions by their first action.
+#[derive(Clone, Copy)]
+pub struct Indexed<'a> {
+    pub net: Net<'a>,
+    pub index: &'a Index,
+    ghost chains: { Chains net.rows.now net.transitions index.now.heads index.now.nexts } by { Chains-prop net.rows.now net.transitions index.now.heads index.now.nexts },
+}
+
+impl<'a> Indexed<'a> {
+    ghost use Rattle.algebra.specs.Firing.{fire_items};
+    ghost use Rattle.moving.specs.Net.{transitions_of};
+    ghost use Rattle.moving.specs.inner.Moves.{Moves};
+    ghost use Rattle.step.specs.inner.Naming.{Found, ItemFound, ItemMissed};
+    ghost use Rattle.step.specs.inner.Reads.{read_and_fire};
+
+    // The transition that an item names, if there is one. Only the chain of the first action is walked, from link to link.
+    fn find(self, item: Item) -> Option<usize>
+        ensures { Found self.entry.net.rows.now self.entry.net.arcs.now self.entry.net.transitions (code_item item) result }
+    {
+        let second = second_number(item);
+        let mut t = usize::from(self.index.heads[usize::from(item.first)]);
+        while t < self.net.transitions {
+            if usize::from(Row::at(self.net.rows, t).second) == second {
+                return Some(t);
+            }
+            t = usize::from(self.index.nexts[t]);
+        }
+        None
+    }
+
+    // The transitions that the items name, or the first item that names none.
+    fn find_items(self, items: &[Item], ts: &mut [u16]) -> Result<(), usize>
+        requires { length items.now ≡ length ts.old }
+        ensures says { MatchResult result (λ u. ItemFound self.entry.net.rows.now self.entry.net.arcs.now self.entry.net.transitions (map code_item items.now) ts.new) (ItemMissed self.entry.net.rows.now self.entry.net.arcs.now self.entry.net.transitions (map code_item items.now)) }
+        ensures fits { OnOk result (All (λ t. t < self.entry.net.transitions) ts.new) }
+    {
+        for (i, &item) in items.iter().enumerate() {
+            let Some(t) = self.find(item) else {
+                return Err(i);
+            };
             ts[i] = t as u16;
-            i += 1;
-        } else {
-            return i;
         }
+        Ok(())
     }
-    i
-}
 
-// A step's items, given by two lists of actions, at the net's part of a marking. `head` and `next` are the index of the transitions by
-// their first action, and `ts` is room for the items' transitions.
-pub fn fire_items(
-    rows: &[u16],
-    arcs: &[u16],
-    transitions: usize,
-    head: &[u16; field::ACTION_LIMIT],
-    next: &[u16; field::TRANSITION_LIMIT],
-    firsts: &[u16],
-    seconds: &[u16],
-    ts: &mut [u16],
-    marking: &mut [u8],
-) -> Fired
-    requires in_order { InOrder rows.now arcs.now transitions (length marking.old) }
-    requires marking_value { all (λ x. leb x 1) marking.old ≡ true }
-    requires chains { Chains rows.now transitions head.now next.now }
-    requires firsts_len { (length firsts.now ≡ length seconds.now) × (length firsts.now ≡ length ts.old) × Bytes (length firsts.now) firsts.now }
-    ensures { Moves result marking.old marking.new (fire_items (transitions_within rows.now arcs.now transitions) marking.old (paired firsts.now seconds.now)) }
-{
-    let found = find_items(rows, transitions, head, next, firsts, seconds, ts);
-    if found < firsts.len() {
-        return Fired::Refused(field::NO_TRANSITION, found);
-    }
-    moving::move_tokens(rows, arcs, marking, ts)
-}
-
-// The one step field that is lent is read, and its items are fired.
-pub fn read_and_fire(
-    rows: &[u16],
-    arcs: &[u16],
-    transitions: usize,
-    head: &[u16; field::ACTION_LIMIT],
-    next: &[u16; field::TRANSITION_LIMIT],
-    step: &[u8],
-    marking: &mut [u8],
-) -> Fired
-    requires in_order { InOrder rows.now arcs.now transitions (length marking.old) }
-    requires marking_value { all (λ x. leb x 1) marking.old ≡ true }
-    requires chains { Chains rows.now transitions head.now next.now }
-    ensures { Moves result marking.old marking.new (read_and_fire (transitions_within rows.now arcs.now transitions) marking.old step.now) }
-{
-    let mut firsts = form::no_numbers();
-    let mut seconds = form::no_numbers();
-    match form::read_lent_step(step, &mut firsts, &mut seconds) {
-        ItemsAnswer::Refused(number) => Fired::Refused(number, 0),
-        ItemsAnswer::Items(count) => {
-            let mut ts = form::no_numbers();
-            fire_items(
-                rows,
-                arcs,
-                transitions,
-                head,
-                next,
-                &firsts[..count],
-                &seconds[..count],
-                &mut ts[..count],
-                marking,
-            )
+    /// A step's items, at the net's part of a marking, with room for as many transitions.
+    pub fn fire_items(
+        self,
+        items: &[Item],
+        ts: &mut [u16],
+        marking: &mut [u8],
+    ) -> Result<(), Refusal>
+        requires room { length items.now ≡ length ts.old }
+        requires marking_length { length marking.old ≡ self.net.places }
+        requires marking_value { all (λ x. leb x 1) marking.old ≡ true }
+        ensures { Moves result marking.old marking.new (fire_items (transitions_of self.entry.net) marking.old (map code_item items.now)) }
+    {
+        if let Err(item) = self.find_items(items, ts) {
+            return Err(Fault::NoTransition.at(item));
         }
+        self.net.move_tokens(marking, ts)
+    }
+
+    /// The one step field that is lent is read, and its items are fired.
+    pub fn read_and_fire(self, step: &[u8], marking: &mut [u8]) -> Result<(), Refusal>
+        requires marking_length { length marking.old ≡ self.net.places }
+        requires marking_value { all (λ x. leb x 1) marking.old ≡ true }
+        ensures { Moves result marking.old marking.new (read_and_fire (transitions_of self.entry.net) marking.old step.now) }
+    {
+        let mut items = no_items();
+        let mut ts = [0; MOST_ITEMS];
+        let count = read_lent_step(step, &mut items).map_err(|fault| fault.at(0))?;
+        self.fire_items(&items[..count], &mut ts[..count], marking)
     }
 }

@@ -2,52 +2,33 @@
 #![tactic(auto)]
 
 ghost use Rattle.std.specs.Prelude.{◌≡◌};
-ghost use Rattle.net.specs.Lent.{lent};
+ghost use Rattle.net.specs.Lent.{tables_lent};
 ghost use Rattle.moving.specs.Says.{fired_says};
 ghost use Rattle.step.specs.Fire;
 
-use moving::Fired;
+use field::{Fault, Refusal};
+use firing::Indexed;
+use moving::Net;
+use net::tokens::is_marking;
+use net::{Index, Lent};
 
 pub mod firing;
 
-// Fires the one step field that is lent. On refusal the marking is as it was, and what lies past the net's part is never touched.
-pub fn fire(
-    kinds: &[u8],
-    rows: &[u16],
-    arcs: &[u16],
-    places: usize,
-    transitions: usize,
-    arc_count: usize,
-    marking: &mut [u8],
-    step: &[u8],
-) -> Fired
-    ensures answer { fired_says result ≡ (Fire.fire (lent kinds.now rows.now arcs.now places transitions arc_count) marking.old step.now).answer }
-    ensures marking { marking.new ≡ (Fire.fire (lent kinds.now rows.now arcs.now places transitions arc_count) marking.old step.now).marking }
+/// Fires the one step field that is lent. On refusal the marking is as it was, and what lies past the net's part is never touched.
+pub fn fire(lent: &Lent, marking: &mut [u8], step: &[u8]) -> Result<(), Refusal>
+    ensures answer { fired_says result ≡ (Fire.fire (tables_lent lent.now) marking.old step.now).answer }
+    ensures marking { marking.new ≡ (Fire.fire (tables_lent lent.now) marking.old step.now).marking }
 {
-    let mut head = net::no_heads();
-    let mut next = net::no_nexts();
-    if !net::is_net_with_index(
-        kinds,
-        rows,
-        arcs,
-        places,
-        transitions,
-        arc_count,
-        &mut head,
-        &mut next,
-    ) {
-        return Fired::Refused(field::NO_NET, 0);
+    let mut index = Index::new();
+    if !net::is_net_with_index(lent, &mut index) {
+        return Err(Fault::NoNet.at(0));
     }
-    if !net::tokens::is_marking(marking, places) {
-        return Fired::Refused(field::NO_MARKING, 0);
+    if !is_marking(marking, lent.places) {
+        return Err(Fault::NoMarking.at(0));
     }
-    firing::read_and_fire(
-        rows,
-        arcs,
-        transitions,
-        &head,
-        &next,
-        step,
-        &mut marking[..places],
-    )
+    let indexed = Indexed {
+        net: Net::lent(lent),
+        index: &index,
+    };
+    indexed.read_and_fire(step, &mut marking[..lent.places])
 }

@@ -1,38 +1,26 @@
 -- Tokens taken and put place by place, as the code does it. That this is the firing of 01 is shown of it.
-use Rattle.std.specs.Prelude.{ℕ, suc, ◌+◌, ◌*◌, ◌≤◌, ◌<◌, List, [], ◌∷◌, ◌++◌, map, Bool, true, false, cond, ◌&&◌, length, get_or, set, take, drop, eqb, leb}
+use Rattle.std.specs.Prelude.{ℕ, suc, ◌+◌, List, [], ◌∷◌, ◌++◌, map, Bool, true, cond, ◌&&◌, length, get_or, slice_index, set, take, drop, ◌==◌, eqb, leb}
+use Rattle.std.specs.List.{list_all}
 use Rattle.field.specs.Refusals.{input_empty, input_shared, two_tokens}
 use Rattle.field.specs.Answer.{Answer, good, ◌>>◌, check}
-use Rattle.field.specs.Lists.{all}
 use Rattle.net.specs.inner.Chains.{in_row}
+use Rattle.net.specs.declared.Side.{Side}
+use Rattle.net.specs.declared.Side.TheVariants.{Inputs, Outputs}
 
--- The places on one side of a transition: those that it produces into, or else those that it consumes from.
-unfoldable pub side_of : Bool → List ℕ → List ℕ → ℕ → List ℕ
-side_of true rows arcs t = take (in_row rows t 5) (drop (in_row rows t 3 + in_row rows t 4) arcs)
-side_of false rows arcs t = take (in_row rows t 4) (drop (in_row rows t 3) arcs)
+-- The places on one side of a transition: those that it consumes from, or those that it produces into.
+unfoldable pub side_of : Side → List ℕ → List ℕ → ℕ → List ℕ
+side_of Inputs rows arcs t = take (in_row rows t 4) (drop (in_row rows t 3) arcs)
+side_of Outputs rows arcs t = take (in_row rows t 5) (drop (in_row rows t 3 + in_row rows t 4) arcs)
 
-abbrev pub sides : Bool → List ℕ → List ℕ → List ℕ → List (List ℕ)
-sides out rows arcs ts = map (side_of out rows arcs) ts
-
--- Every number of a list is below the number of places.
-abbrev pub Below : ℕ → List ℕ → Type 0
-Below places ps = (i : ℕ) → i < length ps → get_or ps i 0 < places
-
--- The row of a transition lies in the rows, its lists lie in the arcs, and its place numbers are places.
-pub record Fits (rows arcs : List ℕ) (places t : ℕ) : Type 0 where
-  pub row : 6 * t + 6 ≤ length rows
-  pub ends : in_row rows t 3 + (in_row rows t 4 + in_row rows t 5) ≤ length arcs
-  pub below : (out : Bool) → Below places (side_of out rows arcs t)
-
-abbrev pub AllFit : List ℕ → List ℕ → ℕ → List ℕ → Type 0
-AllFit rows arcs places ts = (i : ℕ) → i < length ts → Fits rows arcs places (get_or ts i 0)
+abbrev pub sides : Side → List ℕ → List ℕ → List ℕ → List (List ℕ)
+sides side rows arcs ts = map (side_of side rows arcs) ts
 
 -- Every place of a list holds so many tokens.
 abbrev pub hold : ℕ → List ℕ → List ℕ → Bool
-hold tokens m ps = all (λ p. eqb (get_or m p 0) tokens) ps
+hold tokens m ps = list_all (λ p. slice_index m p == tokens) ps
 
 -- How many lists come before the first that has a place with another number of tokens.
 unfoldable pub holds_each : ℕ → List ℕ → List (List ℕ) → ℕ
-unfolding all
 holds_each tokens m [] = 0
 holds_each tokens m (ps ∷ ls) = cond (hold tokens m ps) (suc (holds_each tokens m ls)) 0
 

@@ -1,49 +1,36 @@
 -- `take_step`: each answer, with the marking that it leaves, is a law of `StepsTaken` at the step that was read.
-use mathlib.Core.Path.{refl}
-use native.Mathlib.Omega.{arith}
-use lib.ListN.{drop}
+use Rattle.std.proofs.Common.{refl, ap, ◌∙◌, drop}
+use mathlib.Core.Path.{ap₂}
+use Rattle.std.proofs.lemmas.Result.{err_from_is_err_and}
+use Rattle.field.specs.Answer.{refused}
+use Rattle.field.specs.Says.{number_of}
 use Rattle.moving.specs.inner.InOrder.{transitions_within}
-use Rattle.run.proofs.StepsTaken.{step_fits, no_step_taken, step_taken, step_not_taken}
+use Rattle.run.proofs.StepsTaken.{no_step_taken, step_taken, step_not_taken}
 use Rattle.run.proofs.steps.take_step.Goals as goal
 
-pub fire_front-requires : goal.fire_front-requires
-fire_front-requires c =
-    let p = c.requires in
-    let q = c.step_at in
-    let fits = step_fits _ c.in-Step.items c.in-Step.bytes q.result q.new.firsts q.new.seconds q.ensures.fits c.in-Step.is in
+pub returns-in-Err : goal.returns-in-Err
+returns-in-Err c =
+    let n = c.args.indexed.net in
     record {
-      in_order = p.in_order;
-      marking_value = p.marking_value;
-      chains = p.chains;
-      in_bounds = (fits.3, fits.4, omega (arith, fits.2), fits.5);
+      says = ap₂ refused (ap number_of c.at.ensures.0) c.at.ensures.1
+          ∙ no_step_taken (transitions_within n.rows.now n.arcs.now n.transitions) c.args.marking.now (drop c.args.at c.args.«record».now) c.args.at (number_of c.in-Err.fault) c.args.at c.in-Err.ensures.says;
+      leaves = refl;
     }
 
-pub returns-in-Refused : goal.returns-in-Refused
-returns-in-Refused c =
-    let a = c.args in
-    let q = c.step_at in
-    record {
-      says = no_step_taken (transitions_within a.rows.now a.arcs.now a.transitions) a.marking.now (drop a.at a.«record».now) a.at q.result q.new.firsts q.new.seconds q.ensures.says _ c.in-Refused.is;
-      fits = refl;
-    }
+pub returns-in_err-fire_items-in-Ok : goal.returns-in_err-fire_items-in-Ok
+returns-in_err-fire_items-in-Ok c =
+    let n = c.args.indexed.net in
+    let p = err_from_is_err_and c.from_residual.result c.from_residual.ensures.1 in
+    rw (p.1, p.2)
+    (step_not_taken (transitions_within n.rows.now n.arcs.now n.transitions) c.args.marking.now (drop c.args.at c.args.«record».now) c.args.at c.step_at.new.items c.in-Ok.step.items c.in-Ok.step.bytes
+    c.in-Ok.ensures.says c.fire_items.result c.fire_items.new.marking c.fire_items.ensures _ c.in_err-fire_items-in-Ok.was)
 
-pub returns-in-Refused-fire_front : goal.returns-in-Refused-fire_front
-returns-in-Refused-fire_front c =
-    let a = c.args in
-    let q = c.step_at in
-    let g = c.fire_front in
-    let law = step_not_taken (transitions_within a.rows.now a.arcs.now a.transitions) a.marking.now (drop a.at a.«record».now) a.at q.result q.new.firsts q.new.seconds q.ensures.says c.in-Step.items c.in-Step.bytes c.in-Step.is
-    g.result g.new.marking g.ensures _ _ c.in-Refused-fire_front.is in
-    record { says = law.0; fits = law.1 }
-
-pub returns-in-Done : goal.returns-in-Done
-returns-in-Done c =
-    let a = c.args in
-    let q = c.step_at in
-    let fits = step_fits _ c.in-Step.items c.in-Step.bytes q.result q.new.firsts q.new.seconds q.ensures.fits c.in-Step.is in
-    let g = c.fire_front in
+pub returns-in_ok-fire_items-in-Ok : goal.returns-in_ok-fire_items-in-Ok
+returns-in_ok-fire_items-in-Ok c =
+    let n = c.args.indexed.net in
     record {
-      says = step_taken (transitions_within a.rows.now a.arcs.now a.transitions) a.marking.now (drop a.at a.«record».now) a.at q.result q.new.firsts q.new.seconds q.ensures.says c.in-Step.items c.in-Step.bytes c.in-Step.is
-          g.result g.new.marking g.ensures c.in-Done.is;
-      fits = (fits.0, fits.1);
+      some = c.in-Ok.ensures.fits.0;
+      within = c.in-Ok.ensures.fits.1;
+      takes = step_taken (transitions_within n.rows.now n.arcs.now n.transitions) c.args.marking.now (drop c.args.at c.args.«record».now) c.args.at c.step_at.new.items c.in-Ok.step.items c.in-Ok.step.bytes
+          c.in-Ok.ensures.says c.fire_items.result c.fire_items.new.marking c.fire_items.ensures c.in_ok-fire_items-in-Ok.was;
     }
