@@ -15,7 +15,8 @@ use Rattle.field.proofs.OneResult.{One, Allowed, Answered}
 use Rattle.algebra.specs.Firing.{enabled_from}
 use Rattle.net.specs.Tables.{Tables, transitions_in}
 use Rattle.net.specs.Lent.{tables_lent}
-use Rattle.moving.proofs.Faults.{said_once, known_said, IsKnown, check_known, net_known, marking_known}
+use Rattle.field.proofs.Faults.{said_once, known_said, IsKnown, check_known}
+use Rattle.moving.proofs.KnownChecks.{net_known, marking_known}
 use Rattle.enabling.specs.Enabled.{list_enabled, listed, exits_hold, enabled}
 use Rattle.enabling.specs.Enabled as spec
 use Rattle.enabling.specs.Says.{enabling_told, enabling_says}

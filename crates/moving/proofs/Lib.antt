@@ -1,4 +1,4 @@
-pub mod Faults
+pub mod KnownChecks
 pub mod MoveTurns
 pub mod Filled
 pub mod MoveAnswers

@@ -4,7 +4,7 @@ use Prim.Native.Nat.{ℕ}
 use mathlib.Core.Path.{◌≡◌, refl, ap}
 use Rattle.std.specs.Prelude.{Result, Ok, Err}
 use Rattle.field.specs.Says.{number_of}
-use Rattle.moving.proofs.Faults.{fault_numbered, IsNumbered, one_refusal}
+use Rattle.field.proofs.Faults.{fault_numbered, IsNumbered, one_refusal}
 use Rattle.run.specs.Run.{Verdict, finished, unfinished, refusal}
 use Rattle.run.specs.Says.{ran_says}
 use Rattle.run.specs.declared.Ran.{Ran}

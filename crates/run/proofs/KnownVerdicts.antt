@@ -8,7 +8,7 @@ use Rattle.algebra.specs.Net.{Net}
 use Rattle.algebra.specs.Marking.{exits_marked}
 use Rattle.algebra.specs.Firing.{fire_items}
 use Rattle.form.specs.Form.{Recorded, ends, step, no_step, StepRead, read_step, one_more, read_steps}
-use Rattle.moving.proofs.Faults.{IsNumbered, IsKnown}
+use Rattle.field.proofs.Faults.{IsNumbered, IsKnown}
 use Rattle.step.proofs.KnownRefusals.{step_known, fire_known}
 use Rattle.run.specs.Run.{finished, unfinished, Run, go_on, run}
 use Rattle.run.proofs.Determined.{IsSayable}

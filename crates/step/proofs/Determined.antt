@@ -14,7 +14,8 @@ use Rattle.net.specs.Tables.{Tables, transitions_in}
 use Rattle.net.specs.Lent.{tables_lent}
 use Rattle.form.specs.Form.{read_lent_step}
 use Rattle.moving.specs.Says.{fired_says}
-use Rattle.moving.proofs.Faults.{said_once, known_said, IsKnown, bind_known, net_known, marking_known}
+use Rattle.field.proofs.Faults.{said_once, known_said, IsKnown, bind_known}
+use Rattle.moving.proofs.KnownChecks.{net_known, marking_known}
 use Rattle.step.specs.Fire.{fire_step, fired, fire}
 use Rattle.step.proofs.KnownRefusals.{lent_known, fire_known}
 use Rattle.step.proofs.fire.Kinds as fire-kinds

@@ -13,7 +13,7 @@ use Rattle.algebra.specs.Item.{Item, first}
 use Rattle.algebra.specs.Net.{Transition}
 use Rattle.algebra.specs.Firing.{names, named_by, transitions_named, marked, check_marked, count, check_apart, moved, fire_items}
 use Rattle.form.specs.Form.{check_header, one_tag, two_tag, item_tag, action_count, item_spelt, read_item, read_items, read_step, read_lent_step}
-use Rattle.moving.proofs.Faults.{IsKnown, check_known, bind_known}
+use Rattle.field.proofs.Faults.{IsKnown, check_known, bind_known}
 
 header_known : {A : Type 0} (at : ℕ) (s : List ℕ) (rest : Answer A) → IsKnown rest → IsKnown (check_header at s >> rest)
 unfolding check_header
