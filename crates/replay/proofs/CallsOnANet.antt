@@ -11,6 +11,7 @@ use lib.Seq.{take_at, drop-drop}
 use lib.Dec.{T, leb, le→leb}
 use contract.Lifetimes.{Lfts}
 use borrow.Fn.Kinds.{Dens}
+use Rattle.std.specs.Prelude.{Ok}
 use Rattle.field.specs.Answer.{good, refused, ◌>>=◌, check}
 use Rattle.field.specs.Lists.{all}
 use Rattle.field.proofs.Tests.{T_true}
@@ -31,7 +32,7 @@ use Rattle.plan.proofs.Within.{limits_within}
 use Rattle.plan.proofs.Scopes.{named_scopes}
 use Rattle.plan.proofs.Loops.{loops_exclusive}
 use Rattle.net.specs.Tables.{Tables, kinds_of}
-use Rattle.net.specs.Lent.{lent}
+use Rattle.net.specs.Lent.{tables_lent}
 use Rattle.net.specs.Marking.{check_marking}
 use Rattle.net.proofs.ReadTables.{lent_tables}
 use Rattle.boxes.specs.Compile.{accept}
@@ -120,11 +121,11 @@ module _ (plan : List ℕ) (E : Expr) (yes-plan : accept plan ≡ good E) (R : L
       rw (exits_told h, enabled_on_the_net out, none, room) refl
 
   -- The same of the call: any answer and any list at exit that its contract allows, on these tables and this marking.
-  module _ (κs : Lfts 5) (a : Dens κs call.ps) (z : Result 5 call.ps call.r κs a) (allowed : Allowed 5 call.ps call.r reads.Post κs a z)
-      (its-tables : lent a.0.now a.1.0.now a.1.1.0.now a.1.1.1.0 a.1.1.1.1.0 a.1.1.1.1.1.0 ≡ tables) (its-marking : a.1.1.1.1.1.1.0.now ≡ m ++ rest) where
-    pub call_finished_not_stuck : T (exits_marked (net_of E) m) → (z.0 ≡ Many 0) × (z.1.1.1.1.1.1.1.1.0 ≡ a.1.1.1.1.1.1.1.0.now)
+  module _ (κs : Lfts 4) (a : Dens κs call.ps) (z : Result 4 call.ps call.r κs a) (allowed : Allowed 4 call.ps call.r reads.Post κs a z)
+      (its-tables : tables_lent a.0.now ≡ tables) (its-marking : a.1.0.now ≡ m ++ rest) where
+    pub call_finished_not_stuck : T (exits_marked (net_of E) m) → (z.0 ≡ Ok (Many 0)) × (z.1.1.1.0 ≡ a.1.1.0.now)
     call_finished_not_stuck h =
-        let out = a.1.1.1.1.1.1.1.0.now in
-        let e : enabled (lent a.0.now a.1.0.now a.1.1.0.now a.1.1.1.0 a.1.1.1.1.0 a.1.1.1.1.1.0) a.1.1.1.1.1.1.0.now out ≡ record { answer = good (enabling 0); list = out } =
+        let out = a.1.1.0.now in
+        let e : enabled (tables_lent a.0.now) a.1.0.now out ≡ record { answer = good (enabling 0); list = out } =
         ap₂ (λ t l. enabled t l out) its-tables its-marking ∙ finished_not_stuck h out in
-        (enabling_once z.0 (Many 0) (allowed.0 ∙ ap (λ (r : Enabled). r.answer) e), allowed.1 ∙ ap (λ (r : Enabled). r.list) e)
+        (enabling_once z.0 (Ok (Many 0)) (allowed.0 ∙ ap (λ (r : Enabled). r.answer) e), allowed.1 ∙ ap (λ (r : Enabled). r.list) e)

@@ -27,7 +27,7 @@ pub compile_answered : Answered 4 compile-kinds.ps compile-kinds.r compile-reads
 compile_answered = compile.compile_answered
 
 -- Check 30.
-pub is_net_answered : Answered 3 is-net-kinds.ps is-net-kinds.r is-net-reads.Asked is-net-reads.Post
+pub is_net_answered : Answered 2 is-net-kinds.ps is-net-kinds.r is-net-reads.Asked is-net-reads.Post
 is_net_answered = net.is_net_answered
 
 -- Check 35, of a marking and of replay's buffer.
@@ -38,11 +38,11 @@ pub has_room_answered : Answered 1 has-room-kinds.ps has-room-kinds.r has-room-r
 has_room_answered = net.has_room_answered
 
 -- Firing a step, with the marking.
-pub fire_answered : Answered 5 fire-kinds.ps fire-kinds.r fire-reads.Asked fire-reads.Post
+pub fire_answered : Answered 4 fire-kinds.ps fire-kinds.r fire-reads.Asked fire-reads.Post
 fire_answered = step.fire_answered
 
 -- The enabled list, with the numbers that are written.
-pub enabled_answered : Answered 5 enabled-kinds.ps enabled-kinds.r enabled-reads.Asked enabled-reads.Post
+pub enabled_answered : Answered 4 enabled-kinds.ps enabled-kinds.r enabled-reads.Asked enabled-reads.Post
 enabled_answered = enabling.enabled_answered
 
 -- Replay, with the marking buffer.

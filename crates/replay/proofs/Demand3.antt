@@ -39,8 +39,12 @@ use Rattle.boxes.proofs.TablesAreANet.{accepted}
 use Rattle.form.specs.Form.{Recorded, step, no_step, read_steps}
 use Rattle.run.specs.Run.{Verdict, finished, unfinished, refusal, Run, run}
 use Rattle.run.specs.Says.{ran_says}
+use Rattle.std.specs.Prelude as prelude
+use Rattle.field.specs.Says.{number_of}
+use Rattle.field.specs.declared.Fault.TheVariants.{TwoTokens}
 use Rattle.run.specs.declared.Ran.{Ran}
-use Rattle.run.specs.declared.Ran.TheVariants.{Finished, Unfinished, Refused}
+use Rattle.run.specs.declared.Ran.TheVariants.{Finished, Unfinished}
+use Rattle.run.specs.declared.Stopped.{Stopped}
 use Rattle.run.proofs.Determined.{ran_once}
 use Rattle.replay.specs.Replay.{Replayed, start, replay}
 use Rattle.replay.specs.Recorded.{steps_of, Whole, After}
@@ -187,7 +191,7 @@ module _ (κs : Lfts 3) (a : Dens κs call.ps) (z : Result 3 call.ps call.r κs 
   abbrev buffer : List ℕ
   buffer = a.1.1.0.now
 
-  abbrev r : Ran
+  abbrev r : prelude.Result Ran Stopped
   r = z.0
 
   abbrev exit : List ℕ
@@ -203,7 +207,7 @@ module _ (κs : Lfts 3) (a : Dens κs call.ps) (z : Result 3 call.ps call.r κs 
   call_demand_3 = subst (Demand3 E (read_steps 0 0 record_bytes) buffer) (λ i. record { verdict = sym says i; buffer = sym leaves i }) (demand_3 plan record_bytes buffer E yes-plan short room)
 
   -- The call answers Finished or Unfinished exactly when the record is steps and the rules derive them in order from the started plan.
-  pub call_accepts_iff_derived : ((k : ℕ) × ((r ≡ Finished k) ⊎ (r ≡ Unfinished k))) ↔ (Whole (read_steps 0 0 record_bytes) × ((D : Dynamic E) × Derived E (steps_of (read_steps 0 0 record_bytes)) D))
+  pub call_accepts_iff_derived : ((k : ℕ) × ((r ≡ prelude.Ok (Finished k)) ⊎ (r ≡ prelude.Ok (Unfinished k)))) ↔ (Whole (read_steps 0 0 record_bytes) × ((D : Dynamic E) × Derived E (steps_of (read_steps 0 0 record_bytes)) D))
   call_accepts_iff_derived = (λ a. law.0 (a.0, there a.0 a.1), λ d. let a = law.1 d in (a.0, back a.0 a.1))
     where
       law : AcceptsIt plan record_bytes buffer E yes-plan short room ↔ DerivesIt plan record_bytes buffer E yes-plan short room
@@ -212,36 +216,41 @@ module _ (κs : Lfts 3) (a : Dens κs call.ps) (z : Result 3 call.ps call.r κs 
       v : Verdict
       v = (replay plan record_bytes buffer).verdict
 
-      there : (k : ℕ) → (r ≡ Finished k) ⊎ (r ≡ Unfinished k) → (v ≡ finished k) ⊎ (v ≡ unfinished k)
+      there : (k : ℕ) → (r ≡ prelude.Ok (Finished k)) ⊎ (r ≡ prelude.Ok (Unfinished k)) → (v ≡ finished k) ⊎ (v ≡ unfinished k)
       there k (inl e) = inl (sym says ∙ ap ran_says e)
       there k (inr e) = inr (sym says ∙ ap ran_says e)
 
-      back : (k : ℕ) → (v ≡ finished k) ⊎ (v ≡ unfinished k) → (r ≡ Finished k) ⊎ (r ≡ Unfinished k)
-      back k (inl e) = inl (ran_once r (Finished k) (says ∙ e))
-      back k (inr e) = inr (ran_once r (Unfinished k) (says ∙ e))
+      back : (k : ℕ) → (v ≡ finished k) ⊎ (v ≡ unfinished k) → (r ≡ prelude.Ok (Finished k)) ⊎ (r ≡ prelude.Ok (Unfinished k))
+      back k (inl e) = inl (ran_once r (prelude.Ok (Finished k)) (says ∙ e))
+      back k (inr e) = inr (ran_once r (prelude.Ok (Unfinished k)) (says ∙ e))
 
   -- Refused with so many steps told: these are derived, and what is recorded next, a step or not, is not.
-  pub call_refused : (n c k : ℕ) → r ≡ Refused n c k
+  refused_as : (n c k : ℕ) → ran_says r ≡ refusal n c k
       → (Ss : List (List Item)) × (next : Recorded) × (m : List ℕ) × After k (read_steps 0 0 record_bytes) Ss next × Point E Ss m × NotDerived E Ss n c next × (exit ≡ m ++ drop (place_count (net_of E)) buffer)
-  call_refused n c k e = go call_demand_3
+  refused_as n c k e = go call_demand_3
     where
       no_acceptance : {X : Type 0} (b : Bool) (j : ℕ) → ran_says r ≡ cond b (finished j) (unfinished j) → X
-      no_acceptance true j f = absurd (let g : refusal n c k ≡ finished j = sym (ap ran_says e) ∙ f in let z : ◌≡◌ {A = ℕ} 0 1 = cc in let w : ⊥ = omega arith in w)
-      no_acceptance false j f = absurd (let g : refusal n c k ≡ unfinished j = sym (ap ran_says e) ∙ f in let z : ◌≡◌ {A = ℕ} 0 1 = cc in let w : ⊥ = omega arith in w)
+      no_acceptance true j f = absurd (let g : refusal n c k ≡ finished j = sym e ∙ f in let z : ◌≡◌ {A = ℕ} 0 1 = cc in let w : ⊥ = omega arith in w)
+      no_acceptance false j f = absurd (let g : refusal n c k ≡ unfinished j = sym e ∙ f in let z : ◌≡◌ {A = ℕ} 0 1 = cc in let w : ⊥ = omega arith in w)
 
       go : Demand3 E (read_steps 0 0 record_bytes) buffer (record { verdict = ran_says r; buffer = exit })
           → (Ss : List (List Item)) × (next : Recorded) × (m : List ℕ) × After k (read_steps 0 0 record_bytes) Ss next × Point E Ss m × NotDerived E Ss n c next × (exit ≡ m ++ drop (place_count (net_of E)) buffer)
       go (accepts m w p b f) = no_acceptance (exits_marked (net_of E) m) (length (steps_of (read_steps 0 0 record_bytes))) f
       go (refuses n' c' k' Ss next m a p d b f) =
-          let g : refusal n' c' k' ≡ refusal n c k = sym f ∙ ap ran_says e in
+          let g : refusal n' c' k' ≡ refusal n c k = sym f ∙ e in
           let x : n' ≡ n = cc in
           let y : c' ≡ c = cc in
           let z : k' ≡ k = cc in
           (Ss, next, m, subst (λ j. After j (read_steps 0 0 record_bytes) Ss next) z a, p, subst (λ j. NotDerived E Ss j c next) x (subst (λ j. NotDerived E Ss n' j next) y d), b)
 
+  pub call_refused : (s : Stopped) → r ≡ prelude.Err s
+      → (Ss : List (List Item)) × (next : Recorded) × (m : List ℕ) × After s.steps (read_steps 0 0 record_bytes) Ss next × Point E Ss m × NotDerived E Ss (number_of s.refusal.fault) s.refusal.carried next
+      × (exit ≡ m ++ drop (place_count (net_of E)) buffer)
+  call_refused s e = refused_as (number_of s.refusal.fault) s.refusal.carried s.steps (ap ran_says e)
+
   -- "36 cannot come from replay."
-  pub call_never_36 : (c k : ℕ) → r ≡ Refused 36 c k → ⊥
-  call_never_36 c k e = let q = call_refused 36 c k e in go q.1 (after_form q.3 (steps_form 0 0 record_bytes)) q.5
+  pub call_never_36 : (c k : ℕ) → r ≡ prelude.Err (record { refusal = record { fault = TwoTokens; carried = c }; steps = k }) → ⊥
+  call_never_36 c k e = let q = refused_as 36 c k (ap ran_says e) in go q.1 (after_form q.3 (steps_form 0 0 record_bytes)) q.5
     where
       go : {Ss : List (List Item)} (next : Recorded) → FormsIn next → NotDerived E Ss 36 c next → ⊥
       go _ h no_step_there = omega arith

@@ -5,8 +5,11 @@ use native.Mathlib.Omega.{arith}
 use mathlib.Core.Path.{◌≡◌, refl, sym, ◌∙◌, ap, subst}
 use mathlib.Core.Bool.{true}
 use mathlib.Core.List.{List, [], ◌++◌}
-use lib.ListN.{length, drop}
+use lib.ListN.{length, take, drop}
 use lib.Seq.{sets}
+use Rattle.std.specs.Prelude.{Result, Ok}
+use Rattle.field.specs.Says.{says}
+use Rattle.field.specs.declared.Refusal.{Refusal}
 use Rattle.field.specs.Refusals.{no_net}
 use Rattle.field.specs.Answer.{Answer, good, ◌>>=◌}
 use Rattle.field.proofs.Answers.{check_good}
@@ -19,29 +22,33 @@ use Rattle.net.proofs.ReadTables.{lent_tables}
 use Rattle.boxes.specs.Compile.{counts_of, accept}
 use Rattle.boxes.proofs.TablesAreANet.{lent_tables_are_a_net, lent_tables_are_the_net}
 use Rattle.tables.specs.inner.Rows.{Whole, Asked}
-use Rattle.judging.specs.inner.Judging.{judged_says, net_counts, Drawn}
-use Rattle.judging.specs.declared.Judged.{Judged}
+use Rattle.judging.specs.inner.Judging.{counts_told, net_counts, Drawn}
+use Rattle.judging.specs.declared.NetCounts.{NetCounts}
 use Rattle.judging.proofs.FinePlans.{IsFine, is_fine, asked, in_front, rows_long as rows_length}
 use Rattle.moving.specs.inner.InOrder.{transitions_within, InOrder}
 use Rattle.moving.proofs.NetInOrder.{net_in_order, transitions_lent}
-use Rattle.replay.specs.declared.Sizes.{Sizes}
-use Rattle.replay.specs.inner.Fine.{fine, Told}
+use Rattle.replay.specs.inner.Fine.{Told}
 use Rattle.replay.specs.inner.OnANet.{Holds}
 
--- What was told of the judgement's answer is told of the sizes that it names.
-pub told_by : {plan lists index list : List ℕ} {r : Judged} {s : Sizes} → judged_says r ≡ net_counts plan → ((E : Expr) → accept plan ≡ good E → Drawn r lists index list E) → r ≡ fine s → Told plan lists index list s
-told_by {plan} {lists} {index} {list} {r} {s} says drawn e = record { says = sym (ap judged_says e) ∙ says; drawn = λ E a. subst (λ x. Drawn x lists index list E) e (drawn E a) }
+-- What was told of the judgement's answer is told of the counts that it names.
+pub told_by : {plan lists index list : List ℕ} {r : Result NetCounts Refusal} {c : NetCounts} → says counts_told r ≡ net_counts plan → ((E : Expr) → accept plan ≡ good E → Drawn r lists index list E) → r ≡ Ok c
+    → Told plan lists index list c
+told_by {plan} {lists} {index} {list} {r} {c} s drawn e = record { says = sym (ap (says counts_told) e) ∙ s; drawn = λ E a. subst (λ x. Drawn x lists index list E) e (drawn E a) }
 
-module _ {plan lists index list : List ℕ} {s : Sizes} (t : Told plan lists index list s) where
-  pub its_net : IsFine plan s.places s.transitions s.arcs s.entries s.internals lists index list
-  its_net = is_fine plan lists index list (fine s) t.says t.drawn refl
+module _ {plan lists index whole_list : List ℕ} {s : NetCounts} (t : Told plan lists index whole_list s) where
+  -- the net's transitions stand at the front
+  abbrev list : List ℕ
+  list = take (3 * s.transitions) whole_list
+
+  pub its_net : IsFine plan s lists index list
+  its_net = is_fine plan lists index whole_list (Ok s) t.says t.drawn refl
 
   abbrev N : Net
   N = net_of its_net.expr
 
   -- What writing the net asks.
   pub room_asked : {rows arcs : List ℕ} → 6 * s.transitions ≤ length rows → s.arcs ≤ length arcs → Asked lists index list s.transitions rows arcs
-  room_asked = asked plan s.places s.transitions s.arcs s.entries s.internals lists index list its_net
+  room_asked = asked plan s lists index list its_net
 
   pub work_exits : s.entries + s.internals ≤ s.places
   work_exits = omega (arith, its_net.parts)
@@ -66,7 +73,7 @@ module _ {plan lists index list : List ℕ} {s : Sizes} (t : Told plan lists ind
 
     rows_front : rows_of N ++ more_rows ≡ rows
     rows_front = sym (rows_are its_net.expr its_net.whole
-        ∙ in_front (rows_of N) old-rows (omega (arith, rows_long, rows_length plan s.places s.transitions s.arcs s.entries s.internals lists index list its_net)))
+        ∙ in_front (rows_of N) old-rows (omega (arith, rows_long, rows_length plan s lists index list its_net)))
 
     arcs_front : arcs_of N ++ more_arcs ≡ arcs
     arcs_front = sym (arcs_are its_net.expr its_net.whole ∙ in_front (arcs_of N) old-arcs (omega (arith, arcs_long, its_net.its_arcs)))
