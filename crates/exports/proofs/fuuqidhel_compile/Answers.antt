@@ -1,25 +1,13 @@
 -- `fuuqidhel_compile`: what `compile::compile` answers, told in seven numbers, and its three tables.
 -- Assumes nothing.
-use Prim.Native.Nat.{ℕ, ◌≤◌}
-use mathlib.Core.Path.{◌≡◌, refl, sym}
-use mathlib.Core.List.{List}
-use mathlib.Core.Bool.{true}
-use lib.ListN.{length}
-use lib.Dec.{leb}
+use mathlib.Core.List.{[], ◌∷◌}
+use mathlib.Core.Path.{refl, sym}
 use borrow.Author.Tests.{lt-leb, le-leb}
-use Rattle.field.specs.Answer.{Answer}
-use Rattle.boxes.specs.Compile.{Counts}
+use Rattle.std.specs.Prelude.{Ok, Err}
 use Rattle.compile.specs.Says.{compiling_says}
-use Rattle.compile.specs.declared.Compiling.{Compiling}
-use Rattle.compile.specs.declared.Compiling.TheVariants.{Refused, Made}
-use Rattle.exports.specs.Told.{told, compile_tells}
-use Rattle.exports.proofs.Tells.{tells}
+use Rattle.exports.specs.Told.{compile_tells}
+use Rattle.exports.proofs.Tells.{tells, numbered}
 use Rattle.exports.proofs.fuuqidhel_compile.Goals as goal
-
--- Behind the call, at the case x of its answer: there is room, and the numbers told are those of the answer.
-returned : (x r : Compiling) (a : Answer Counts) (array exit : List ℕ) → 7 ≤ length array → r ≡ x → compiling_says r ≡ a
-    → exit ≡ told (compile_tells (compiling_says x)) array → (true ≡ leb 7 (length array)) × (exit ≡ told (compile_tells a) array)
-returned x r a array exit room is says e = (sym (le-leb _ _ room), tells compiling_says compile_tells x r a array exit is says e)
 
 pub returns-then-answer-lt7 : goal.returns-then-answer-lt7
 returns-then-answer-lt7 c =
@@ -31,23 +19,21 @@ returns-then-answer-lt7 c =
       arcs = refl;
     }
 
-pub returns-in-Refused : goal.returns-in-Refused
-returns-in-Refused c =
-    let t = returned (Refused c.in-Refused.number c.in-Refused.carried) c.compile.result _ c.args.answer.now _ c.if-answer-lt7.false c.in-Refused.is c.compile.ensures.answer c.tell.ensures in
+pub returns-in-Ok : goal.returns-in-Ok
+returns-in-Ok c =
     record {
-      room = t.0;
-      answer = t.1;
+      room = sym (le-leb _ _ c.if-answer-lt7.false);
+      answer = tells compiling_says compile_tells (Ok c.in-Ok.net) c.compile.result _ _ _ c.in-Ok.is c.compile.ensures.answer c.tell.ensures;
       kinds = c.compile.ensures.kinds;
       rows = c.compile.ensures.rows;
       arcs = c.compile.ensures.arcs;
     }
 
-pub returns-in-Made : goal.returns-in-Made
-returns-in-Made c =
-    let t = returned (Made c.in-Made.places c.in-Made.transitions c.in-Made.arc_count c.in-Made.entries c.in-Made.internals) c.compile.result _ c.args.answer.now _ c.if-answer-lt7.false c.in-Made.is c.compile.ensures.answer c.tell-in-Made.ensures in
+pub returns-in-Err : goal.returns-in-Err
+returns-in-Err c =
     record {
-      room = t.0;
-      answer = t.1;
+      room = sym (le-leb _ _ c.if-answer-lt7.false);
+      answer = tells compiling_says compile_tells (Err c.in-Err.refusal) c.compile.result _ _ _ c.in-Err.is c.compile.ensures.answer (numbered (c.in-Err.refusal.carried ∷ 0 ∷ 0 ∷ 0 ∷ 0 ∷ 0 ∷ []) c.args.answer.now _ c.tell-in-Err.ensures c.number.ensures);
       kinds = c.compile.ensures.kinds;
       rows = c.compile.ensures.rows;
       arcs = c.compile.ensures.arcs;

@@ -1,11 +1,13 @@
--- `fuuqidhel_enabled`: what `step::enabled` answers, told in four numbers, and its list.
+-- `fuuqidhel_enabled`: what `enabling::enabled` answers, told in four numbers, and its list.
 -- Assumes nothing.
-use mathlib.Core.Path.{refl, sym}
+use mathlib.Core.List.{[], ◌∷◌}
+use mathlib.Core.Path.{refl, sym, ap, ◌∙◌}
 use borrow.Author.Tests.{lt-leb, le-leb}
+use Rattle.std.specs.Prelude.{Ok, Err}
 use Rattle.enabling.specs.Says.{enabling_says}
-use Rattle.enabling.specs.declared.Enabling.TheVariants.{Many, Stuck, Refused}
+use Rattle.enabling.specs.declared.Enabling.TheVariants.{Many, Stuck}
 use Rattle.exports.specs.Told.{enabled_tells}
-use Rattle.exports.proofs.Tells.{tells}
+use Rattle.exports.proofs.Tells.{tells, numbered}
 use Rattle.exports.proofs.fuuqidhel_enabled.Goals as goal
 
 pub returns-then-answer-lt4 : goal.returns-then-answer-lt4
@@ -16,26 +18,26 @@ returns-then-answer-lt4 c =
       list = refl;
     }
 
-pub returns-in-Many : goal.returns-in-Many
-returns-in-Many c =
+pub returns-in-Ok-Many : goal.returns-in-Ok-Many
+returns-in-Ok-Many c =
     record {
       room = sym (le-leb _ _ c.if-answer-lt4.false);
-      answer = tells enabling_says enabled_tells (Many c.in-Many.many) c.enabled.result _ _ _ c.in-Many.is c.enabled.ensures.answer c.tell.ensures;
+      answer = tells enabling_says enabled_tells (Ok (Many c.in-Ok-Many.many)) c.enabled.result _ _ _ (c.in-Ok-Many.is ∙ ap Ok c.in-Ok-Many.field-0-is) c.enabled.ensures.answer c.tell.ensures;
       list = c.enabled.ensures.list;
     }
 
-pub returns-in-Stuck : goal.returns-in-Stuck
-returns-in-Stuck c =
+pub returns-in-Ok-Stuck : goal.returns-in-Ok-Stuck
+returns-in-Ok-Stuck c =
     record {
       room = sym (le-leb _ _ c.if-answer-lt4.false);
-      answer = tells enabling_says enabled_tells Stuck c.enabled.result _ _ _ c.in-Stuck.is c.enabled.ensures.answer c.tell-in-Stuck.ensures;
+      answer = tells enabling_says enabled_tells (Ok Stuck) c.enabled.result _ _ _ (c.in-Ok-Stuck.is ∙ ap Ok c.in-Ok-Stuck.field-0-is) c.enabled.ensures.answer c.tell-in-Ok-Stuck.ensures;
       list = c.enabled.ensures.list;
     }
 
-pub returns-in-Refused : goal.returns-in-Refused
-returns-in-Refused c =
+pub returns-in-Err : goal.returns-in-Err
+returns-in-Err c =
     record {
       room = sym (le-leb _ _ c.if-answer-lt4.false);
-      answer = tells enabling_says enabled_tells (Refused c.in-Refused.number c.in-Refused.carried) c.enabled.result _ _ _ c.in-Refused.is c.enabled.ensures.answer c.tell-in-Refused.ensures;
+      answer = tells enabling_says enabled_tells (Err c.in-Err.refusal) c.enabled.result _ _ _ c.in-Err.is c.enabled.ensures.answer (numbered (c.in-Err.refusal.carried ∷ 0 ∷ 0 ∷ []) c.args.answer.now _ c.tell-in-Err.ensures c.number.ensures);
       list = c.enabled.ensures.list;
     }

@@ -1,11 +1,13 @@
--- `fuuqidhel_replay`: what `replay::replay` answers, told in four numbers, and its marking.
+-- `fuuqidhel_replay`: what `replay::replay` answers, told in four numbers, and its buffer.
 -- Assumes nothing.
-use mathlib.Core.Path.{refl, sym}
+use mathlib.Core.List.{[], ◌∷◌}
+use mathlib.Core.Path.{refl, sym, ap, ◌∙◌}
 use borrow.Author.Tests.{lt-leb, le-leb}
+use Rattle.std.specs.Prelude.{Ok, Err}
 use Rattle.run.specs.Says.{ran_says}
-use Rattle.run.specs.declared.Ran.TheVariants.{Finished, Unfinished, Refused}
+use Rattle.run.specs.declared.Ran.TheVariants.{Finished, Unfinished}
 use Rattle.exports.specs.Told.{replay_tells}
-use Rattle.exports.proofs.Tells.{tells}
+use Rattle.exports.proofs.Tells.{tells, numbered}
 use Rattle.exports.proofs.fuuqidhel_replay.Goals as goal
 
 pub returns-then-answer-lt4 : goal.returns-then-answer-lt4
@@ -16,26 +18,26 @@ returns-then-answer-lt4 c =
       marking = refl;
     }
 
-pub returns-in-Finished : goal.returns-in-Finished
-returns-in-Finished c =
+pub returns-in-Ok-Finished : goal.returns-in-Ok-Finished
+returns-in-Ok-Finished c =
     record {
       room = sym (le-leb _ _ c.if-answer-lt4.false);
-      answer = tells ran_says replay_tells (Finished c.in-Finished.steps) c.replay.result _ c.args.answer.now _ c.in-Finished.is c.replay.ensures.verdict c.tell.ensures;
+      answer = tells ran_says replay_tells (Ok (Finished c.in-Ok-Finished.steps)) c.replay.result _ _ _ (c.in-Ok-Finished.is ∙ ap Ok c.in-Ok-Finished.field-0-is) c.replay.ensures.verdict c.tell.ensures;
       marking = c.replay.ensures.buffer;
     }
 
-pub returns-in-Unfinished : goal.returns-in-Unfinished
-returns-in-Unfinished c =
+pub returns-in-Ok-Unfinished : goal.returns-in-Ok-Unfinished
+returns-in-Ok-Unfinished c =
     record {
       room = sym (le-leb _ _ c.if-answer-lt4.false);
-      answer = tells ran_says replay_tells (Unfinished c.in-Unfinished.steps) c.replay.result _ c.args.answer.now _ c.in-Unfinished.is c.replay.ensures.verdict c.tell-in-Unfinished.ensures;
+      answer = tells ran_says replay_tells (Ok (Unfinished c.in-Ok-Unfinished.steps)) c.replay.result _ _ _ (c.in-Ok-Unfinished.is ∙ ap Ok c.in-Ok-Unfinished.field-0-is) c.replay.ensures.verdict c.tell-in-Ok-Unfinished.ensures;
       marking = c.replay.ensures.buffer;
     }
 
-pub returns-in-Refused : goal.returns-in-Refused
-returns-in-Refused c =
+pub returns-in-Err : goal.returns-in-Err
+returns-in-Err c =
     record {
       room = sym (le-leb _ _ c.if-answer-lt4.false);
-      answer = tells ran_says replay_tells (Refused c.in-Refused.number c.in-Refused.carried c.in-Refused.steps) c.replay.result _ c.args.answer.now _ c.in-Refused.is c.replay.ensures.verdict c.tell-in-Refused.ensures;
+      answer = tells ran_says replay_tells (Err c.in-Err.stopped) c.replay.result _ _ _ c.in-Err.is c.replay.ensures.verdict (numbered (c.in-Err.stopped.refusal.carried ∷ c.in-Err.stopped.steps ∷ 0 ∷ []) c.args.answer.now _ c.tell-in-Err.ensures c.number.ensures);
       marking = c.replay.ensures.buffer;
     }
