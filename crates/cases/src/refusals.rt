@@ -57,22 +57,8 @@ fn tables(rt: &impl Print) {
         &mut [0; 18],
         &mut [0; 7],
     );
-    compiled_into(
-        rt,
-        "14, rows",
-        plan,
-        &mut [0; 5],
-        &mut [0; 17],
-        &mut [0; 7],
-    );
-    compiled_into(
-        rt,
-        "14, arcs",
-        plan,
-        &mut [0; 5],
-        &mut [0; 18],
-        &mut [0; 6],
-    );
+    compiled_into(rt, "14, rows", plan, &mut [0; 5], &mut [0; 17], &mut [0; 7]);
+    compiled_into(rt, "14, arcs", plan, &mut [0; 5], &mut [0; 18], &mut [0; 6]);
 }
 
 // Records of `(a‖b);c`.

@@ -1,13 +1,12 @@
 // One line for a case: a title and what the call answers.
-use std::fmt::Display;
-
 use enabling::Enabling;
 use net::Lent;
+use std::fmt::Display;
 
 const ROWS_ROOM: usize = 6 * field::TRANSITION_LIMIT;
 
 // A write that fails is passed over.
-fn say<T: Display, E: Display>(rt: &impl Print, title: &str, answer: Result<T, E>) {
+fn say<T: Display + Drop, E: Display + Drop>(rt: &impl Print, title: &str, answer: Result<T, E>) {
     let _ = match answer {
         Ok(value) => println!(rt; "{title}: {value}"),
         Err(refusal) => println!(rt; "{title}: {refusal}"),

@@ -228,7 +228,8 @@ module _ (plan : List ℕ) (nodes many : ℕ) (table counts list : List ℕ) (w 
     fine_drawn e h c t whole_list cut F a =
         let same : E ≡ F = good_same E F (sym (accept_by (arcs_few E (omega (arith, arcs_are e)))) ∙ a) in
         let m : c.transitions ≡ many = ap (λ (c : Counts). c.transitions) t in
-        let l : 3 * many ≤ length (take (3 * many) whole_list) = subst (λ l. 3 * many ≤ length l) cut w.room in
-        (subst (λ X. Whole lists index (take (3 * c.transitions) whole_list) c.transitions X) same
-        (subst (λ k. Whole lists index (take (3 * k) whole_list) k E) (sym m) (subst (λ l. Whole lists index l many E) cut whole)),
-        omega (arith, l, length-take (3 * many) whole_list, m))
+        let l : 3 * many ≤ length (take (3 * many) whole_list) = subst (λ l. 3 * many ≤ length l) cut w.room in (
+          subst (λ X. Whole lists index (take (3 * c.transitions) whole_list) c.transitions X) same
+              (subst (λ k. Whole lists index (take (3 * k) whole_list) k E) (sym m) (subst (λ l. Whole lists index l many E) cut whole)),
+          omega (arith, l, length-take (3 * many) whole_list, m),
+        )

@@ -36,11 +36,7 @@ fn places_fit(counts: &[Counts]) -> bool
 }
 
 // What is asked of a plan that was read: 10, 11, 12.
-fn judge(
-    rows: &[Row],
-    counts: &mut [Counts],
-    list: &mut [Transition],
-) -> Result<Ready, Refusal>
+fn judge(rows: &[Row], counts: &mut [Counts], list: &mut [Transition]) -> Result<Ready, Refusal>
     requires { (length rows.now ≤ 1366) × (length rows.now ≤ length counts.old) × (most ≤ length list.old) }
     ensures { (E : Expr) → Table (table_numbers rows.now) (length rows.now) E → actions E ≤ 256 → T (named E) → Fine E result (counts_numbers counts.old) (counts_numbers counts.new) (list_numbers list.new) }
 {

@@ -16,18 +16,16 @@ ghost use Rattle.spread.specs.inner.Numbers.{told_table};
 ghost use Rattle.transitions.specs.inner.Numbers.{most, list_numbers};
 ghost use Rattle.judging.specs.inner.Judging.{counts_told, net_counts, counted, Drawn};
 
-use std::fmt;
-
+use crate::front::front;
 use boxes::counts::{Counts, counts_at};
 use field::{Fault, Refusal};
 use lists::Node;
 use plan::table::Row;
 use spread::Told;
 use spread::walk::spread;
+use std::fmt;
 use tables::rows::count_arcs;
 use transitions::Transition;
-
-use crate::front::front;
 
 /// Plans of at most so many bytes get work room of their size, so that a small plan does not pay for the limits.
 pub const SMALL_PLAN: usize = 512;
