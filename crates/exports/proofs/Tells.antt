@@ -1,12 +1,8 @@
 -- What a call tells: its numbers one after another from the front of the array on, and 01's answer behind the code's answer.
 -- Assumes nothing.
-use Prim.Native.Nat.{ℕ, zero, suc, ◌+◌, ◌≤◌, ◌<◌}
-use mathlib.Core.Path.{◌≡◌, refl, sym, ap, ◌∙◌}
-use mathlib.Core.List.{List, [], ◌∷◌, ◌++◌}
-use native.Mathlib.Omega.{arith}
-use native.Mathlib.Numerals.{add-one}
-use lib.ListN.{length, take, drop, get_or, set}
-use lib.Seq.{take-length}
+use Prim.Native.Nat.{ℕ}
+use mathlib.Core.Path.{◌≡◌, sym, ap, ◌∙◌}
+use mathlib.Core.List.{List, ◌∷◌}
 use Rattle.exports.specs.Told.{told}
 
 -- The numbers of the case x that the code's answer r is are those of the answer a that r says.

@@ -6,7 +6,7 @@ use mathlib.Core.Path.{◌≡◌, refl, sym, ◌∙◌, ap, ap₂, subst}
 use mathlib.Core.Bool.{Bool, true, false}
 use mathlib.Core.List.{List, [], ◌∷◌, Memᴰ}
 use lib.ListN.{length, get_or, take, drop, length-map, length-take}
-use lib.Seq.{take_at, take-take, take_all}
+use lib.Seq.{take_at, take-take}
 use lib.Dec.{leb}
 use borrow.Author.Tests.{leb-true}
 use Rattle.field.specs.Limits.{plan_limit, place_limit, transition_limit, arc_limit}

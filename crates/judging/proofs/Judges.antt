@@ -35,7 +35,7 @@ use Rattle.boxes.specs.inner.NodeCounts.{box_counts, node_counts}
 use Rattle.boxes.specs.Compile.{accept}
 use Rattle.transitions.specs.inner.Numbers.{flat, too_many}
 use Rattle.judging.specs.inner.Judged.{check_places, check_transitions, check_arcs, judge, judged}
-use Rattle.judging.specs.inner.Ready.{Sizes, sizes_told, ready_sizes, ready, ListIsOf, CountsAreOf, TableIsOf, TablesAre, Fine}
+use Rattle.judging.specs.inner.Ready.{sizes_told, ready_sizes, ready, ListIsOf, CountsAreOf, TableIsOf, TablesAre, Fine}
 use Rattle.judging.specs.declared.front.Ready.{Ready}
 
 -- A test of a count that is cut off is the test of the count.

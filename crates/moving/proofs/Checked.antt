@@ -1,22 +1,17 @@
 -- What checks 30 and 35 tell where they are passed: the net is in order between as many places as the marking's part has, and that part
 -- has at most one token a place. Both by the definitions of the checks.
 use Prim.Native.Nat.{ℕ, ◌≤◌}
-use mathlib.Core.Path.{◌≡◌, refl, sym, ap, subst, ◌∙◌}
+use mathlib.Core.Path.{◌≡◌, refl, ap, ◌∙◌}
 use mathlib.Core.List.{List}
 use mathlib.Core.Bool.{Bool, true, false}
 use borrow.Author.Tests.{leb-true}
 use lib.ListN.{length, take}
-use lib.Seq.{length-take-le}
 use lib.Dec.{leb}
 use Rattle.field.specs.Answer.{good, refused, check}
 use Rattle.field.specs.Refusals.{no_marking}
 use Rattle.field.specs.Lists.{all}
 use Rattle.field.proofs.Answers.{check_good, good_not_refused}
-use Rattle.net.specs.Check.{is_net}
 use Rattle.net.specs.Marking.{check_marking}
-use Rattle.net.specs.Lent.{lent}
-use Rattle.moving.specs.inner.InOrder.{InOrder}
-use Rattle.moving.proofs.NetInOrder.{net_in_order}
 
 pub marking_good : (places : ℕ) (m : List ℕ) (b : Bool) → check_marking places m ≡ check b no_marking 0 → b ≡ true → (places ≤ length m) × (all (λ x. leb x 1) (take places m) ≡ true)
 unfolding check_marking

@@ -17,7 +17,7 @@ pub mod tokens;
 
 pub use chains::{Index, index_by_first};
 use tables::Rows;
-pub use tables::{Lent, Row, number};
+pub use tables::{Lent, Row};
 
 /// 01, "Box construction": a transition consumes from its input places and produces into its output places.
 #[derive(Clone, Copy, Debug, PartialEq, Eq)]

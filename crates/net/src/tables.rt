@@ -98,12 +98,3 @@ impl<'a> Rows<'a> {
         Row::at(self.numbers, t)
     }
 }
-
-/// Number k of the row of transition t: 0 label, 1 first action, 2 second action or 65,535, 3 start in the arcs,
-/// 4 how many inputs, 5 how many outputs.
-pub fn number(rows: &[u16], t: usize, k: usize) -> usize
-    requires { 6 * t + k < length rows.now }
-    ensures { (result ≡ in_row rows.now t k) × (result < 65536) }
-{
-    usize::from(rows[ROW * t + k])
-}

@@ -7,7 +7,7 @@ use mathlib.Core.Bool.{Bool, true, false, cond}
 use lib.ListN.{length, get_or, drop}
 use lib.Dec.{eqb, leb, ltb}
 use Rattle.field.specs.Limits.{plan_limit, depth_limit, action_limit}
-use Rattle.field.specs.Answer.{good, refused, check}
+use Rattle.field.specs.Answer.{good, refused}
 use Rattle.field.specs.Refusals.{plan_too_long, field_cut, wrong_body, wrong_label, too_many_actions, unknown_tag}
 use Rattle.field.specs.Field.{tag_of, length_of, body_of}
 use Rattle.field.proofs.Faults.{IsKnown, check_known, bind_known}

@@ -1,5 +1,5 @@
 -- What the judgement says and leaves in the work tables.
-use Rattle.std.specs.Prelude.{ℕ, ◌+◌, ◌*◌, ◌≤◌, ◌≡◌, List, length, get_or, take, Result, Ok, Err}
+use Rattle.std.specs.Prelude.{ℕ, ◌+◌, ◌*◌, ◌≤◌, List, length, get_or, take, Result, Ok, Err}
 use Rattle.field.specs.Answer.{Answer, good, ◌>>=◌}
 use Rattle.algebra.specs.Expr.{Expr}
 use Rattle.algebra.specs.Arcs.{net_of}
