@@ -26,6 +26,7 @@ pub fn read_all<R: Read>(from: &mut R, buffer: &mut [u8]) -> io::Result<usize>
     ensures bytes { IfOk result (λ n. Reads n (R.remaining from.old) (R.remaining from.new) buffer.new) }
 {
     let mut at = 0;
+    // A read gives as many bytes as there are, so the loop goes by what is left of the buffer.
     while at < buffer.len() {
         let read = read_at(from, buffer, at)?;
         if read == 0 {

@@ -7,7 +7,7 @@ ghost use Rattle.field.specs.Lists.{all};
 use moving::Net;
 use net::Side;
 
-// 01, "Net tables", "3 exit".
+// 01, "Net tables", "3 exit": a byte of a lent table, which C reads as a number.
 const EXIT: u8 = 3;
 
 /// A net that is in order, and its part of a marking.

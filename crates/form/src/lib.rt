@@ -93,6 +93,7 @@ pub fn read_items(body: &[u8], items: &mut [Item; MOST_ITEMS]) -> Result<usize, 
     let mut rest = body;
     let mut count = 0;
     let mut least = 0;
+    // An item takes as many bytes as it says, so the loop goes by what is left of the body.
     while !rest.is_empty() {
         // 01, "Form by location": the item's answer is taken apart by let-else, and a refusal leaves early.
         let answer = read_item(rest, least);

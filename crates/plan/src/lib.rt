@@ -163,7 +163,7 @@ fn read_field(
             (tag, byte, members, end, read)
         }
     };
-    // Only now is the node after the subtree known.
+    // Only now is the node after the subtree known. Each number fits 16 bits, as a plan is short; `as` is proved to lose nothing.
     rows[so_far.nodes] = Row {
         tag: tag as u16,
         byte: u16::from(byte),

@@ -58,6 +58,7 @@ pub fn run_steps(
     let mut items = no_items();
     let mut ts = [0; MOST_ITEMS];
     let mut place = Place { at: 0, steps: 0 };
+    // A step takes as many bytes as it says, so the loop goes by the place.
     while place.at < record.len() {
         let at = place.at;
         match take_step(indexed, record, at, &mut items, &mut ts, marking) {

@@ -42,6 +42,7 @@ impl<'a> Indexed<'a> {
     {
         let second = second_number(item);
         let mut t = usize::from(self.index.heads[usize::from(item.first)]);
+        // The chain says itself where it goes on, so the walk has no range to go over.
         while t < self.net.transitions {
             if usize::from(Row::at(self.net.rows, t).second) == second {
                 return Some(t);

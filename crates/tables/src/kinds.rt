@@ -2,6 +2,7 @@
 ghost use Rattle.std.specs.Prelude.{◌≡◌, ◌++◌, ◌+◌, ◌≤◌, length, drop, replicate};
 ghost use Rattle.std.proofs.lemmas.List.Edits.{sets};
 
+// Bytes of a lent table, which C reads as numbers.
 const ENTRY: u8 = 1;
 
 const INTERNAL: u8 = 2;

@@ -64,6 +64,7 @@ fn list_nodes(
 {
     let mut at = k;
     let mut so_far = n;
+    // The walk jumps behind a scope, so it is no range.
     while at < end {
         let row = rows[at];
         let Ok(tag) = row.tag() else {
