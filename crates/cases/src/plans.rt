@@ -37,9 +37,10 @@ impl Plan {
     fn header(&mut self, tag: Tag, length: usize)
         requires { length < 65536 }
     {
+        let [high, low] = (length as u16).to_be_bytes();
         self.put(tag as u8);
-        self.put((length / 256) as u8);
-        self.put((length % 256) as u8);
+        self.put(high);
+        self.put(low);
     }
 
     /// The header of an operator over two parts that have n actions and so many scopes together.
