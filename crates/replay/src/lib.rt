@@ -68,7 +68,15 @@ fn run_from_entries(
     ensures { (N : algebra.Net) → Holds net.entry.rows.now net.entry.arcs.now (length marking.old) net.entry.transitions counts.entries counts.internals N → RunIs N «record».now result marking.new }
 {
     mark_entries(marking, counts.entries);
-    run_record(net, counts.entries + counts.internals, record, marking)
+    let exits_from = counts.entries + counts.internals;
+    run_record(
+        net.rows,
+        net.arcs,
+        net.transitions,
+        exits_from,
+        record,
+        marking,
+    )
 }
 
 // "35 (short only), then 20, before anything is written", then the run. What lies behind the net's part is neither looked at nor written.

@@ -48,15 +48,15 @@ run_record_determined = record { one = one }
   where
     one : (κs : Lfts 3) (a : Dens κs kinds.ps) → One (Allowed 3 kinds.ps kinds.r reads.Post κs a)
     one κs a =
-        let N = some_net a.0.rows.now a.0.arcs.now a.0.transitions a.1.0 in
-        let m = a.1.1.1.0.now in
-        let R = read_steps 0 0 a.1.1.0.now in
+        let N = some_net a.0.now a.1.0.now a.1.1.0 a.1.1.1.0 in
+        let m = a.1.1.1.1.1.0.now in
+        let R = read_steps 0 0 a.1.1.1.1.0.now in
         let z = run N 0 m R in
-        let r = ran_said z.verdict (run_sayable N 0 m R (steps_known 0 0 a.1.1.0.now)) in
-        let to-exits = add-zero a.1.0 in
+        let r = ran_said z.verdict (run_sayable N 0 m R (steps_known 0 0 a.1.1.1.1.0.now)) in
+        let to-exits = add-zero a.1.1.1.0 in
         record {
           some = (
-            (r.0, (tt, (tt, (tt, (z.marking, tt))))),
+            (r.0, (tt, (tt, (tt, (tt, (tt, (z.marking, tt))))))),
             λ M g f. let e = same_run N M (sym g) (to-exits ∙ sym f) 0 m R in (r.1 ∙ ap (λ (t : Run). t.verdict) e, ap (λ (t : Run). t.marking) e),
           );
           only = λ x y p q.
@@ -64,5 +64,5 @@ run_record_determined = record { one = one }
               let q = q N refl to-exits in
               let r = ran_once x.0 y.0 (p.0 ∙ sym q.0) in
               let k = p.1 ∙ sym q.1 in
-              λ i. (r i, (tt, (tt, (tt, (k i, tt)))));
+              λ i. (r i, (tt, (tt, (tt, (tt, (tt, (k i, tt)))))));
         }
