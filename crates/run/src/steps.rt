@@ -20,7 +20,8 @@ struct Place {
     steps: usize,
 }
 
-// Reads the step at an offset and fires it; the bytes that it takes. The two lists of 256 are room for its items, whatever they hold.
+// Reads the step at an offset and fires it; the bytes that it takes. The two lists of 256 are room for its items, whatever they hold; they
+// are two parameters, since the borrow checker refuses a call that lends both out of one struct.
 fn take_step(
     indexed: Indexed,
     record: &[u8],
@@ -43,7 +44,8 @@ fn take_step(
     }
 }
 
-/// The steps of a record, up to its end or to the first refusal. The room for a step's items is made here, once.
+/// The steps of a record, up to its end or to the first refusal. The room for a step's items is made here, once. That no place holds more than
+/// one token is a clause of each function that moves tokens: no type can state it beside a marking that is lent to be written.
 pub fn run_steps(
     indexed: Indexed,
     exits_from: usize,
