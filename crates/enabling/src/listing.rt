@@ -56,6 +56,7 @@ impl<'a> Marked<'a> {
         let mut many = 0;
         for t in 0..self.net.transitions {
             if self.is_enabled(t) {
+                // A net has at most 1,024 transitions.
                 out[many] = t as u16;
                 many += 1;
             }

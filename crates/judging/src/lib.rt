@@ -76,6 +76,7 @@ fn told(counts: &[Counts], transitions: usize, arcs: usize) -> NetCounts
 
 /// From plan bytes to the counts of the net. Where it is fine the lists tell where each action's places stand, the index of each action's
 /// node, and the list has the transitions. A field takes 3 bytes at least, so a row for each three bytes is room enough in the first three.
+/// The five tables are five parameters, since each is as long as the caller has room: a struct of arrays would be of one length.
 pub fn judge(
     plan: &[u8],
     table: &mut [Row],

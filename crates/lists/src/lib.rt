@@ -42,7 +42,7 @@ impl Node {
     }
 }
 
-/// A number in 16 bits.
+/// A number in 16 bits. A plan's numbers all fit; on rows that are no plan's they may not, and the function must not fail there.
 pub fn short(number: usize) -> u16
     ensures { result ≡ number % 65536 }
 {

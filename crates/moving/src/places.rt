@@ -11,7 +11,7 @@ pub fn all_hold(marking: &[u8], places: &[u16], tokens: u8) -> bool
     places.iter().all(|&p| marking[usize::from(p)] == tokens)
 }
 
-// So many tokens at each place of a list.
+// So many tokens at each place of a list. A loop, here and below: of a closure that writes what it captures nothing would be known behind it.
 pub fn fill(marking: &mut [u8], places: &[u16], tokens: u8)
     requires { All (λ p. p < length marking.old) places.now }
     ensures { marking.new ≡ filled tokens marking.old places.now }

@@ -84,7 +84,8 @@ fn is_in_order(part: &[u16], m: usize) -> bool
     0 < m && m < part.len() && part[m - 1] < part[m]
 }
 
-// The places of two actions, one list behind the other, the second's from place m on.
+// The places of two actions, one list behind the other, the second's from place m on. Two actions, a side and where the second begins are
+// parameters here and below: the three are called at one place each, and a struct would be made for that call alone.
 fn put_pair(draft: Draft<'_>, i: usize, j: usize, side: Side, m: usize, part: &mut [u16])
     requires { (m ≡ told_count (told_table draft.index.now) side i) × (length part.old ≡ m + told_count (told_table draft.index.now) side j) × (length part.old ≤ 2048) }
     ensures { PlacedPair (node_table draft.entry.lists.now) (told_table draft.entry.index.now) side i j part.new }

@@ -161,6 +161,7 @@ fn put_action(row: Row, k: usize, lists: &[Node], index: &mut [Told])
     let outputs = count_places(lists, k, Side::Outputs);
     if i < index.len() {
         index[i] = Told {
+            // A table has at most 1,366 nodes.
             node: k as u16,
             inputs,
             outputs,

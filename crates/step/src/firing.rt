@@ -62,12 +62,14 @@ impl<'a> Indexed<'a> {
             let Some(t) = self.find(item) else {
                 return Err(i);
             };
+            // A net has at most 1,024 transitions.
             ts[i] = t as u16;
         }
         Ok(())
     }
 
-    /// A step's items, at the net's part of a marking, with room for as many transitions.
+    /// A step's items, at the net's part of a marking, with room for as many transitions. That no place holds more than one token is a
+    /// clause: no type can state it beside a marking that is lent to be written.
     pub fn fire_items(
         self,
         items: &[Item],

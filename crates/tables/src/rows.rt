@@ -39,7 +39,7 @@ pub fn count_arcs(index: &[Told], list: &[Transition]) -> usize
     count
 }
 
-// Row k of the transitions.
+// Row k of the transitions, six numbers as in 01, "Net tables": the lent table is such numbers and nothing else.
 fn put_row(rows: &mut [u16], k: usize, t: Transition, start: u16, inputs: u16, outputs: u16)
     requires { 6 * (k + 1) ≤ length rows.old }
     ensures { rows.new ≡ sets rows.old (6 * k) (t.label ∷ (t.first ∷ (t.second ∷ (start ∷ (inputs ∷ (outputs ∷ [])))))) }
@@ -67,6 +67,7 @@ fn put_transition(
     let outputs = count_item(draft.index, Side::Outputs, t);
     let end = at + inputs + outputs;
     put_arcs(draft, t, inputs, &mut arcs[at..end], spare);
+    // There are at most 16,384 arcs, so each of these fits.
     put_row(rows, k, t, at as u16, inputs as u16, outputs as u16);
     end
 }

@@ -17,7 +17,8 @@ pub struct Parting {
 // More than the number of any action.
 const ALL: usize = 65536;
 
-// The number of the operand of node k that holds action i; of a node with no operand its own number.
+// The number of the operand of node k that holds action i; of a node with no operand its own number. No tag is told apart first: in one match
+// with the tags the proof would not know that there is none.
 fn operand_of(rows: &[Row], k: usize, i: usize) -> usize
     requires { (k ≤ 65535) × (length rows.now ≤ 1366) }
     ensures operand { result ≡ operand_by (table_numbers rows.now) k i }
