@@ -5,7 +5,7 @@ use native.Mathlib.Omega.{arith}
 use native.Mathlib.Numerals.{add-one}
 use mathlib.Core.Path.{◌≡◌, refl, sym, ◌∙◌, ap, ap₂}
 use mathlib.Core.Bool.{Bool, true, false, cond, ◌||◌}
-use mathlib.Core.List.{List, [], ◌∷◌, ◌++◌, append-nil, append_assoc}
+use mathlib.Core.List.{List, [], ◌∷◌, ◌++◌, append-nil}
 use lib.ListN.{length, get_or, take, drop, set, length-append, length-drop, take-append-drop, drop_of_length-le}
 use lib.Dec.{ltb}
 use lib.Seq.{sets, length-sets, length-take-le, take-suc, drop-cons, drop-drop, take_all}
@@ -15,7 +15,6 @@ use Rattle.algebra.specs.Arcs.{numbers}
 use Rattle.field.proofs.NumbersOfRows.{sets_append}
 use Rattle.field.proofs.NumbersOfRows as rows
 use borrow.Rule.Slice.PartMut.{put_mid}
-use Rattle.std.proofs.lemmas.List.Edits.{sets-eq}
 use Rattle.std.specs.Prelude.{Option, Some, None, IfSome, IfNone}
 use Rattle.arcs.specs.inner.Merge.{into, union, Below, Run, Merged}
 
@@ -112,12 +111,13 @@ put_is out n after =
     let none : drop (length out - n) (drop n out) ≡ [] = drop_of_length-le (drop n out) (omega (arith, length-drop n out)) in
     ap (λ l. take n out ++ (after ++ l)) none ∙ ap (λ l. take n out ++ l) (append-nil after)
 
--- Numbers copied over a part are stored one after another.
-pub copied_over : (out : List ℕ) (at k : ℕ) {after rest : List ℕ} → after ≡ rest → k ≡ length rest → at + length rest ≤ length out → put_mid at k out after ≡ sets out at rest
-copied_over out at k {after} {rest} e f room =
-    let behind : drop k (drop at out) ≡ drop (at + length rest) out = ap (λ m. drop m (drop at out)) f ∙ drop-drop (length rest) at out in
-    ap₂ (λ l m. take at out ++ (l ++ m)) e behind
-    ∙ sym (sets-eq rest out at room ∙ append_assoc (take at out) rest (drop (at + length rest) out))
+-- One more number of a rest is stored behind those before it.
+pub copied_next : (out rest : List ℕ) (at n : ℕ) → n < length rest → set (sets out at (take n rest)) (at + n) (get_or rest n 0) ≡ sets out at (take (n + 1) rest)
+copied_next out rest at n h =
+    let x = get_or rest n 0 in
+    let one_more : take n rest ++ (x ∷ []) ≡ take (n + 1) rest = sym (ap (λ m. take m rest) (add-one n) ∙ take-suc rest n 0 h) in
+    let long : at + n ≡ at + length (take n rest) = omega (arith, length-take-le n rest (omega arith)) in
+    ap (λ k. sets (sets out at (take n rest)) k (x ∷ [])) long ∙ sym (sets_append out at (take n rest) (x ∷ [])) ∙ ap (sets out at) one_more
 
 -- ---- the run: the numbers below a bound
 below_snoc : (b : ℕ) (l : List ℕ) (x : ℕ) → Below b l → x < b → Below b (l ++ (x ∷ []))

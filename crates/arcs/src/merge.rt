@@ -12,9 +12,11 @@ fn copy_rest(rest: &[u16], out: &mut [u16], at: usize) -> Option<usize>
     if out.len() - at < rest.len() {
         return None;
     }
-    let end = at + rest.len();
-    out[at..end].copy_from_slice(rest);
-    Some(end)
+    // A loop: `copy_from_slice` would have the archive ask for C's memmove, and the rest is mostly short.
+    for (n, &place) in rest.iter().enumerate() {
+        out[at + n] = place;
+    }
+    Some(at + rest.len())
 }
 
 // The numbers at the head of the list that are below a bound, written as far as there is room. Answers how many.

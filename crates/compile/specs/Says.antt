@@ -4,7 +4,7 @@ use Rattle.field.specs.Answer.{Answer}
 use Rattle.field.specs.Says.{says}
 use Rattle.field.specs.declared.Refusal.{Refusal}
 use Rattle.boxes.specs.Compile.{Counts, Lent}
-use Rattle.judging.specs.inner.Judging.{counts_told}
+use Rattle.judging.specs.Counts.{counts_told}
 use Rattle.judging.specs.declared.NetCounts.{NetCounts}
 
 -- 01, "Where an answer is an enum, the promises use a definition that gives this paper's number and values for each of its cases".

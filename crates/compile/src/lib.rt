@@ -18,7 +18,7 @@ use plan::table::Row;
 use sides::Draft;
 use spread::Told;
 use tables::kinds::write_kinds;
-use tables::rows::put_transitions;
+use tables::rows::put_net;
 use transitions::{MOST, Transition};
 
 // The call, in work room for so many nodes.
@@ -37,8 +37,6 @@ fn compile_in<const N: usize>(
     let mut lists = [Node::default(); N];
     let mut index = [Told::default(); field::ACTION_LIMIT];
     let mut list = [Transition::default(); MOST];
-    // Room to merge two lists of places in; longer ones get room of their own.
-    let mut spare = [0; N];
     let net = judge(
         plan,
         &mut table,
@@ -64,7 +62,7 @@ fn compile_in<const N: usize>(
         lists: &lists,
         index: &index,
     };
-    put_transitions(draft, &list[..net.transitions], rows, arcs, &mut spare);
+    put_net(draft, &list[..net.transitions], rows, arcs, net.places);
     Ok(net)
 }
 

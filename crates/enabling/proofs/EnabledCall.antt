@@ -3,7 +3,7 @@
 use Prim.Native.Nat.{ℕ, ◌≤◌}
 use mathlib.Core.Path.{◌≡◌, refl, sym, ap, ap₂, ◌∙◌}
 use mathlib.Core.List.{List, [], ◌∷◌, ◌++◌}
-use mathlib.Core.Bool.{Bool, true, false, cond}
+use mathlib.Core.Bool.{Bool, true, false}
 use native.Mathlib.Nat.{zero-add}
 use native.Mathlib.Omega.{arith}
 use borrow.Author.Tests.{leb-true}
@@ -16,21 +16,19 @@ use Rattle.algebra.specs.Firing.{enabled_from}
 use Rattle.net.specs.Tables.{Tables, transitions_in}
 use Rattle.net.specs.Check.{is_net, check_net}
 use Rattle.net.specs.Marking.{check_marking}
-use Rattle.enabling.specs.Enabled.{list_enabled, exits_hold, how_many, enabled, enabling, stuck}
+use Rattle.enabling.specs.Enabled.{list_enabled, exits_hold, how_many, enabled, enabling}
 use Rattle.algebra.specs.Net.{Transition}
 use Rattle.std.specs.Prelude.{Result, Ok, Err}
 use Rattle.field.specs.Says.{number_of}
 use Rattle.field.specs.declared.Fault.{Fault}
 use Rattle.field.specs.declared.Fault.TheVariants.{NoNet, NoMarking, TableTooShort}
 use Rattle.field.specs.declared.Refusal.{Refusal}
-use Rattle.std.specs.List.{list_all, zip}
 use lib.Seq.{length-take-le}
 use Rattle.net.proofs.NetTests.{net_reaches}
 use Rattle.moving.proofs.Checked.{marking_good}
-use Rattle.enabling.proofs.ExitsHold.{ExitHolds, exits_paired}
 use Rattle.enabling.specs.Says.{enabling_told, enabling_says}
 use Rattle.enabling.specs.declared.Enabling.{Enabling}
-use Rattle.enabling.specs.declared.Enabling.TheVariants.{Many, Stuck}
+use Rattle.enabling.specs.declared.Enabling.TheVariants.{Many}
 
 abbrev pub Lists : Result Enabling Refusal → List ℕ → Tables → List ℕ → List ℕ → Type 0
 Lists r exit tables m out = (enabling_says r ≡ (enabled tables m out).answer) × (exit ≡ (enabled tables m out).list)
@@ -38,12 +36,11 @@ Lists r exit tables m out = (enabling_says r ≡ (enabled tables m out).answer) 
 sets_front : (vs l : List ℕ) → length vs ≤ length l → sets l 0 vs ≡ vs ++ drop (length vs) l
 sets_front vs l h = sets-eq vs l 0 (omega arith) ∙ rw (zero-add (length vs))
 
--- The exits of a net and its part of a marking, place by place.
-pub exits_told : (tables : Tables) (m : List ℕ) (b : Bool) → b ≡ is_net tables → b ≡ true → (d : Bool) → check_marking tables.places m ≡ check d no_marking 0 → d ≡ true
-    → (h : Bool) → h ≡ list_all ExitHolds (zip (take tables.places tables.kinds) (take tables.places m)) → exits_hold (take tables.places tables.kinds) (take tables.places m) ≡ h
-exits_told tables m b e t d f u h x =
-    sym (x ∙ exits_paired (take tables.places tables.kinds) (take tables.places m)
-    (length-take-le _ _ (net_reaches tables (sym e ∙ t)).0 ∙ sym (length-take-le _ _ (marking_good tables.places m d f u).0)))
+-- A net's kinds and its part of a marking are as long.
+pub kinds_long : (tables : Tables) (m : List ℕ) (b : Bool) → b ≡ is_net tables → b ≡ true → (d : Bool) → check_marking tables.places m ≡ check d no_marking 0 → d ≡ true
+    → length (take tables.places tables.kinds) ≡ length (take tables.places m)
+kinds_long tables m b e t d f u =
+    length-take-le _ _ (net_reaches tables (sym e ∙ t)).0 ∙ sym (length-take-le _ _ (marking_good tables.places m d f u).0)
 
 module _ (tables : Tables) (m out : List ℕ) where
   refuses : (fault : Fault) (r : Refusal) → (r.fault ≡ fault) × (r.carried ≡ 0) → refused (number_of fault) 0 ≡ list_enabled tables m out → Lists (Err r) out tables m out
@@ -88,17 +85,17 @@ module _ (tables : Tables) (m out : List ℕ) where
         unfolding enabled
         list_told r x = (x ∙ rw (← good_list), written ∙ rw (← good_list))
 
-        -- none is enabled: all exits hold, or the net is stuck
-        told_none : (b : Bool) (l : List ℕ) → exits ≡ b → length l ≡ 0 → cond b (enabling 0) stuck ≡ how_many exits l
-        told_none b [] e z = rw e
-        told_none b (y ∷ l) e z = absurd (omega arith)
+        -- none is enabled: what is answered then
+        pub none_lent : many ≡ 0 → (r : Enabling) → enabling_told r ≡ how_many exits [] → Lists (Ok r) exit tables m out
+        none_lent z r x = list_told r (ap good (x ∙ go numbers (sym many_is ∙ z)))
+          where
+            go : (l : List ℕ) → length l ≡ 0 → how_many exits [] ≡ how_many exits l
+            go [] y = refl
+            go (x ∷ l) y = absurd (omega arith)
 
-        pub stuck_lent : many ≡ 0 → exits ≡ false → Lists (Ok Stuck) exit tables m out
-        stuck_lent z e = list_told Stuck (ap good (told_none false numbers e (sym many_is ∙ z)))
-
-        pub many_lent : (many ≡ 0 → exits ≡ true) → Lists (Ok (Many many)) exit tables m out
-        many_lent z = list_told (Many many) (ap good (go numbers many_is))
+        pub many_lent : (many ≡ 0 → ⊥) → Lists (Ok (Many many)) exit tables m out
+        many_lent n = list_told (Many many) (ap good (go numbers many_is))
           where
             go : (l : List ℕ) → many ≡ length l → enabling many ≡ how_many exits l
-            go [] y = ap enabling y ∙ told_none true [] (z y) refl
+            go [] y = absurd (n y)
             go (x ∷ l) y = ap enabling y

@@ -7,12 +7,12 @@ ghost use Rattle.enabling.specs.Enabled;
 ghost use Rattle.enabling.specs.Says.{enabling_says};
 
 use field::{Fault, Refusal};
-use listing::{Marked, exits_hold};
+use listing::{Marked, when_none};
 use moving::Net;
 use net::Lent;
 use net::tokens::is_marking;
 
-mod listing;
+pub mod listing;
 
 /// How many transitions are enabled; or that none is, with some exit place unmarked.
 #[derive(Clone, Copy, Debug, PartialEq, Eq)]
@@ -41,9 +41,8 @@ pub fn enabled(lent: &Lent, marking: &[u8], out: &mut [u16]) -> Result<Enabling,
         return Err(Fault::TableTooShort.at(0));
     }
     let many = marked.write(out);
-    // A run that is over is not stuck.
-    if many == 0 && !exits_hold(&lent.kinds[..lent.places], tokens) {
-        return Ok(Enabling::Stuck);
+    if many == 0 {
+        return Ok(when_none(&lent.kinds[..lent.places], tokens));
     }
     Ok(Enabling::Many(many))
 }

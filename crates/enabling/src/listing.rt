@@ -1,9 +1,12 @@
 // The enabled transitions of a net at a marking, counted and listed.
-ghost use Rattle.std.specs.Prelude.{◌≡◌, ◌==◌, ◌||◌, true, not, ◌<◌, ◌≤◌, length, leb, count_by};
+ghost use Rattle.std.specs.Prelude.{◌≡◌, ◌==◌, ◌||◌, true, not, ◌<◌, ◌≤◌, [], length, leb, count_by};
 ghost use Rattle.std.specs.List.{list_all, zip, range_with_len};
 ghost use Rattle.std.proofs.lemmas.List.Edits.{sets};
 ghost use Rattle.field.specs.Lists.{all};
+ghost use Rattle.enabling.specs.Enabled.{exits_hold, how_many};
+ghost use Rattle.enabling.specs.Says.{enabling_told};
 
+use crate::Enabling;
 use moving::Net;
 use net::Side;
 
@@ -73,4 +76,15 @@ pub fn exits_hold(kinds: &[u8], marking: &[u8]) -> bool
         .iter()
         .zip(marking)
         .all(|(&kind, &tokens)| kind != EXIT || tokens != 0)
+}
+
+/// What is answered where nothing is enabled: a run that is over is not stuck.
+pub fn when_none(kinds: &[u8], marking: &[u8]) -> Enabling
+    requires { length kinds.now ≡ length marking.now }
+    ensures { enabling_told result ≡ how_many (exits_hold kinds.now marking.now) [] }
+{
+    if exits_hold(kinds, marking) {
+        return Enabling::Many(0);
+    }
+    Enabling::Stuck
 }

@@ -1,1 +1,2 @@
+pub mod Counts
 pub mod inner

@@ -60,7 +60,7 @@ pub fn front(
     counts: &mut [Counts],
     list: &mut [Transition],
 ) -> Result<Ready, Refusal>
-    requires plan_in_bounds { length plan.now ≤ plan_limit → (length plan.now ≤ 3 * length table.old) × (length plan.now ≤ 3 * length counts.old) }
+    requires plan_in_bounds { length plan.now ≤ plan_limit → (length plan.now ≤ 3 * length table.old + 2) × (length plan.now ≤ 3 * length counts.old + 2) }
     requires most_in_bounds { most ≤ length list.old }
     ensures answer { says sizes_told result ≡ ready plan.now }
     ensures tables { TablesAre result (judged plan.now) (table_numbers table.old) (table_numbers table.new) (counts_numbers counts.old) (counts_numbers counts.new) (list_numbers list.new) }

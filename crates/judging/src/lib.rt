@@ -4,7 +4,7 @@
 
 pub mod front;
 
-ghost use Rattle.std.specs.Prelude.{◌≡◌, ◌*◌, ◌≤◌, length};
+ghost use Rattle.std.specs.Prelude.{◌≡◌, ◌+◌, ◌*◌, ◌≤◌, length};
 ghost use Rattle.field.specs.Limits.{plan_limit};
 ghost use Rattle.field.specs.Answer.{good};
 ghost use Rattle.field.specs.Says.{says};
@@ -81,11 +81,11 @@ pub fn judge(
     plan: &[u8],
     table: &mut [Row],
     counts: &mut [Counts],
-    lists: &mut [Node],
+    lists: &mut [Node<u16>],
     index: &mut [Told],
     list: &mut [Transition],
 ) -> Result<NetCounts, Refusal>
-    requires plan_in_bounds { length plan.now ≤ plan_limit → (length plan.now ≤ 3 * length table.old) × (length plan.now ≤ 3 * length counts.old) × (length plan.now ≤ 3 * length lists.old) }
+    requires plan_in_bounds { length plan.now ≤ plan_limit → (length plan.now ≤ 3 * length table.old + 2) × (length plan.now ≤ 3 * length counts.old + 2) × (length plan.now ≤ 3 * length lists.old + 2) }
     requires in_bounds { (256 ≤ length index.old) × (most ≤ length list.old) }
     ensures says { says counts_told result ≡ net_counts plan.now }
     ensures drawn { (E : Expr) → accept plan.now ≡ good E → Drawn result (node_table lists.new) (told_table index.new) (list_numbers list.new) E }

@@ -55,7 +55,8 @@ fn write_transition<W: Write>(out: &mut W, t: usize, row: &[u16], arcs: &[u16]) 
     } else {
         write!(out, " {second}")?;
     }
-    let mut places = arcs.iter().skip(usize::from(start));
+    // From the transition's own arcs on: to skip those before it one by one would cost more than to write it.
+    let mut places = arcs[usize::from(start).min(arcs.len())..].iter();
     out.write_str(" :")?;
     for place in places.by_ref().take(usize::from(inputs)) {
         write!(out, " {place}")?;

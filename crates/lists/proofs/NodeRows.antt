@@ -1,25 +1,23 @@
 -- The numbers of the table of lists at node k are those of row k. True because each node has eleven numbers, all of 16 bits.
-use Prim.Native.Nat.{ℕ, ◌+◌, ◌*◌, ◌≤◌, ◌<◌}
+use Prim.Native.Nat.{ℕ, ◌+◌, ◌*◌, ◌%◌, ◌≤◌, ◌<◌}
 use native.Mathlib.Omega.{arith}
 use mathlib.Core.Path.{◌≡◌, refl, sym, ◌∙◌, ap}
 use mathlib.Core.List.{List}
 use lib.ListN.{length, get_or, set}
-use lib.Seq.{sets}
 use borrow.Author.Tests.{le-leb, lt-leb}
 use Rattle.field.proofs.NumbersOfRows.{length_numbers, number_of_row, number_past_rows, numbers_set}
 use Rattle.net.specs.declared.Side.{Side}
 use Rattle.net.specs.declared.Side.TheVariants.{Inputs, Outputs}
 use Rattle.lists.specs.declared.Node.{Node}
-use Rattle.lists.specs.inner.Lists.{OneList, one_list, Short, ShortNode, cut, list_row, node_row, row_of, node_put, place_of}
+use Rattle.lists.specs.inner.Lists.{OneList, one_list, cut, list_row, node_row, node_put, place_of}
 use Rattle.lists.specs.inner.Numbers.{node_numbers, node_table, list_on}
-use Rattle.lists.proofs.RowsPut.{mod_small}
 
-pub table_length : (nodes : List Node) → length (node_table nodes) ≡ 11 * length nodes
+pub table_length : (nodes : List (Node ℕ)) → length (node_table nodes) ≡ 11 * length nodes
 table_length nodes = length_numbers node_numbers 11 (λ r. refl) nodes
 
 -- ---- what is read
-module _ (nodes : List Node) (k : ℕ) (d : Node) (h : k < length nodes) where
-  abbrev here : Node
+module _ (nodes : List (Node ℕ)) (k : ℕ) (d : Node ℕ) (h : k < length nodes) where
+  abbrev here : Node ℕ
   here = get_or nodes k d
 
   number : (j n : ℕ) → n ≡ 11 * k + j → j < 11 → get_or (node_table nodes) n 0 ≡ get_or (node_numbers here) j 0
@@ -49,35 +47,19 @@ module _ (nodes : List Node) (k : ℕ) (d : Node) (h : k < length nodes) where
       λ i. record { entries = a i; exits = b i; internal = c i }
 
 -- past the last row
-pub past_rows : (nodes : List Node) (side : Side) (k : ℕ) → length nodes ≤ k → get_or (node_table nodes) (place_of side k) 0 ≡ 0
+pub past_rows : (nodes : List (Node ℕ)) (side : Side) (k : ℕ) → length nodes ≤ k → get_or (node_table nodes) (place_of side k) 0 ≡ 0
 past_rows nodes Inputs k h =
     let e : 11 * k ≡ 11 * k + 0 = omega arith in ap (λ m. get_or (node_table nodes) m 0) e ∙ number_past_rows node_numbers 11 (λ r. refl) nodes k 0 h
 past_rows nodes Outputs k h = number_past_rows node_numbers 11 (λ r. refl) nodes k 5 h
 
 -- ---- what is stored
-cut_small : {s : OneList} → Short s → cut s ≡ s
-cut_small {s} h =
-    let a = mod_small s.base h.base in
-    let b = mod_small s.width h.width in
-    let c = mod_small s.times h.times in
-    let d = mod_small s.step h.step in
-    let e = mod_small s.up h.up in
-    λ i. one_list (a i) (b i) (c i) (d i) (e i)
-
-numbers_small : {n : Node} → ShortNode n → node_numbers n ≡ row_of n.entries n.exits n.internal
-numbers_small {n} h =
-    let a = cut_small h.entries in
-    let b = cut_small h.exits in
-    let c = mod_small n.internal h.internal in
-    sym (λ i. node_numbers (record { entries = a i; exits = b i; internal = c i }))
-
-pub node_stored : (nodes : List Node) (c : ℕ) {n : Node} → ShortNode n → c < length nodes
-    → node_table (set nodes c n) ≡ node_put (node_table nodes) c n.entries n.exits n.internal
-node_stored nodes c {n} short h =
-    numbers_set node_numbers 11 (λ r. refl) nodes c n h
-    ∙ ap (sets (node_table nodes) (11 * c)) (numbers_small short)
+-- Each number in 16 bits, as `node_put` has them.
+pub node_stored : (nodes : List (Node ℕ)) (c : ℕ) (entries exits : OneList) (internal : ℕ) → c < length nodes
+    → node_table (set nodes c (record { entries = cut entries; exits = cut exits; internal = internal % 65536 })) ≡ node_put (node_table nodes) c entries exits internal
+node_stored nodes c entries exits internal h =
+    numbers_set node_numbers 11 (λ r. refl) nodes c (record { entries = cut entries; exits = cut exits; internal = internal % 65536 }) h
     ∙ sym (rw (le-leb (11 * c + 11) (length (node_table nodes)) (omega (arith, table_length nodes))) refl)
 
 -- Where the table does not reach nothing is.
-pub none_stored : (nodes : List Node) (c : ℕ) (entries exits : OneList) (internal : ℕ) → length nodes ≤ c → node_table nodes ≡ node_put (node_table nodes) c entries exits internal
+pub none_stored : (nodes : List (Node ℕ)) (c : ℕ) (entries exits : OneList) (internal : ℕ) → length nodes ≤ c → node_table nodes ≡ node_put (node_table nodes) c entries exits internal
 none_stored nodes c entries exits internal h = sym (rw (lt-leb (11 * c + 11) (length (node_table nodes)) (omega (arith, table_length nodes))) refl)

@@ -47,7 +47,14 @@ fn put_copies(out: &mut [u16], count: usize, end: usize, step: u16)
 
 // The copies of `count` numbers in front of a slice by a list, and then by those that it goes on with, which are earlier nodes'. On a table
 // that is in order no test here fails; on any other the copying ends.
-fn put_chain(lists: &[Node], side: Side, below: usize, list: OneList, out: &mut [u16], count: usize)
+fn put_chain(
+    lists: &[Node<u16>],
+    side: Side,
+    below: usize,
+    list: OneList<u16>,
+    out: &mut [u16],
+    count: usize,
+)
     requires { (below ≤ length lists.now) × (0 < count) × (length out.old ≤ 65536) }
     ensures { (fs : List Factor) (ps : List ℕ) → Chain (node_table lists.now) side below list.times list.step list.up fs → length ps ≡ count → Stands out.old 0 ps → length (copied fs ps) ≤ length out.old → Small (copied fs ps) → Stands out.new 0 (copied fs ps) }
 {
@@ -64,7 +71,7 @@ fn put_chain(lists: &[Node], side: Side, below: usize, list: OneList, out: &mut 
 }
 
 /// The places of the action that node k is, on one side, into a slice that is as long as they are many.
-pub fn put_places(lists: &[Node], k: usize, side: Side, out: &mut [u16])
+pub fn put_places(lists: &[Node<u16>], k: usize, side: Side, out: &mut [u16])
     requires { length out.old ≤ 65536 }
     ensures { (s : Spread) → 11 * k + 11 ≤ length (node_table lists.now) → Means (node_table lists.now) side k (list_row (node_table lists.now) (place_of side k)) s → 0 < s.width → length out.old ≡ length (placed s (0 ∷ [])) → Small (placed s (0 ∷ [])) → out.new ≡ placed s (0 ∷ []) }
 {
@@ -81,7 +88,7 @@ pub fn put_places(lists: &[Node], k: usize, side: Side, out: &mut [u16])
 }
 
 // How many numbers `count` become by the copies of a list, and by those of the lists that it goes on with.
-fn count_chain(lists: &[Node], side: Side, below: usize, list: OneList, count: u16) -> u16
+fn count_chain(lists: &[Node<u16>], side: Side, below: usize, list: OneList<u16>, count: u16) -> u16
     requires { below ≤ length lists.now }
     ensures { (step : ℕ) (fs : List Factor) (ps : List ℕ) → Chain (node_table lists.now) side below list.times step list.up fs → length ps ≡ count → length (copied fs ps) ≤ 65535 → result ≡ length (copied fs ps) }
 {
@@ -94,7 +101,7 @@ fn count_chain(lists: &[Node], side: Side, below: usize, list: OneList, count: u
 }
 
 /// How many places the action that node k is has on one side: the factors of its list, multiplied.
-pub fn count_places(lists: &[Node], k: usize, side: Side) -> u16
+pub fn count_places(lists: &[Node<u16>], k: usize, side: Side) -> u16
     ensures { (s : Spread) → 11 * k + 11 ≤ length (node_table lists.now) → Means (node_table lists.now) side k (list_row (node_table lists.now) (place_of side k)) s → length (placed s (0 ∷ [])) ≤ 65535 → result ≡ length (placed s (0 ∷ [])) }
 {
     if lists.len() <= k {

@@ -1,3 +1,4 @@
+pub mod Transitions
 pub mod Net
 pub mod Says
 pub mod inner

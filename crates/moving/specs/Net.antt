@@ -2,8 +2,7 @@
 use Rattle.std.specs.Prelude.{ℕ, List}
 use Rattle.algebra.specs.Net.{Transition}
 use Rattle.net.specs.declared.Side.{Side}
-use Rattle.moving.specs.inner.InOrder.{transitions_within}
-use Rattle.moving.specs.inner.Moving.{side_of, sides}
+use Rattle.moving.specs.Transitions.{transitions_within, side_of, sides}
 use Rattle.moving.specs.declared.Net.{Net}
 
 abbrev pub transitions_of : Net → List Transition

@@ -1,7 +1,10 @@
 -- 01, "Net tables": a row of the tables by its six numbers.
-use Rattle.std.specs.Prelude.{ℕ, List}
-use Rattle.net.specs.inner.Chains.{in_row}
+use Rattle.std.specs.Prelude.{ℕ, ◌+◌, ◌*◌, List, get_or}
 use Rattle.net.specs.declared.tables.Row.{Row}
+
+-- One of the six numbers of a transition, in the rows alone.
+abbrev pub in_row : List ℕ → ℕ → ℕ → ℕ
+in_row rows t k = get_or rows (6 * t + k) 0
 
 -- "six 16-bit numbers per transition (label, first action, second action or 65,535, start in the arc list, input count, output count)"
 abbrev pub row_of : List ℕ → ℕ → Row

@@ -5,8 +5,8 @@ ghost use Rattle.net.specs.inner.Passes.{second_or_256, pairs_pass};
 
 use crate::tables::Rows;
 
-// What stands behind the last transition of a chain: no transition has this number.
-const CHAIN_END: u16 = 65535;
+/// What stands behind the last transition of a chain: no transition has this number.
+pub const CHAIN_END: u16 = 65535;
 
 /// `heads` has for each action the first transition of its chain, and `nexts` for each transition the one after it on the same chain;
 /// 65,535 ends a chain.

@@ -15,7 +15,7 @@ mod rows;
 mod tables;
 pub mod tokens;
 
-pub use chains::{Index, index_by_first};
+pub use chains::{CHAIN_END, Index, index_by_first};
 use tables::Rows;
 pub use tables::{Lent, Row};
 

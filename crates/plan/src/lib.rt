@@ -209,7 +209,7 @@ fn read_operands(
 /// A whole plan: one field, and nothing after it. The rows of its nodes are written from the front, and no other. A node takes 3 bytes at
 /// least, so a row for every three bytes of a plan is room enough.
 pub fn read_plan_in(plan: &[u8], rows: &mut [Row]) -> Result<Sizes, Refusal>
-    requires { length plan.now ≤ plan_limit → length plan.now ≤ 3 * length rows.old }
+    requires { length plan.now ≤ plan_limit → length plan.now ≤ 3 * length rows.old + 2 }
     ensures answer { says sizes_told result ≡ read_sizes plan.now }
     ensures rows { RowsAre (read_plan plan.now) (table_numbers rows.old) (table_numbers rows.new) }
 {

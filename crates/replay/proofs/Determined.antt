@@ -1,16 +1,16 @@
 -- `replay` asks nothing, and its contract determines its answer and every byte of the buffer.
 -- The contract equates both with a function of the input, no two answers of the code say the same, and each verdict of the function is said.
 use Prim.Native.Nat.{ℕ}
-use mathlib.Core.Path.{refl, sym, ◌∙◌}
+use mathlib.Core.Path.{◌≡◌, refl, sym, subst, ◌∙◌}
 use mathlib.Core.Bool.{Bool, true, false}
 use mathlib.Core.List.{List}
 use lib.ListN.{length}
 use lib.Dec.{leb}
 use contract.Lifetimes.{Lfts}
 use borrow.Fn.Kinds.{Dens}
+use borrow.Author.Rules.{rules}
 use Rattle.field.specs.Limits.{record_limit}
-use Rattle.field.specs.Refusals.{no_marking, record_too_long}
-use Rattle.field.specs.Answer.{Answer, good, refused, ◌>>=◌, ◌>>◌, check}
+use Rattle.field.specs.Answer.{Answer, good, refused}
 use Rattle.field.proofs.Faults.{IsNumbered, IsKnown}
 use Rattle.field.proofs.OneResult.{One, Allowed, Answered}
 use Rattle.algebra.specs.Expr.{Expr}
@@ -20,7 +20,7 @@ use Rattle.algebra.specs.Marking.{entry_marking}
 use Rattle.net.specs.Marking.{check_room}
 use Rattle.boxes.specs.Compile.{accept}
 use Rattle.compile.proofs.Reasons.{accept_known}
-use Rattle.form.specs.Form.{read_steps, read_record}
+use Rattle.form.specs.Form.{read_record}
 use Rattle.run.proofs.Determined.{ran_once, ran_said, IsSayable}
 use Rattle.run.proofs.KnownVerdicts.{StepsKnown, steps_known, run_sayable}
 use Rattle.replay.specs.Replay.{Started, start, replayed, replay}
@@ -34,23 +34,22 @@ IsStarted (refused n c) = IsNumbered n
 
 start_known : (plan run_record buffer : List ℕ) → IsStarted (start plan run_record buffer)
 unfolding start check_room read_record
-start_known plan run_record buffer = read (accept plan) (accept_known plan)
+start_known plan run_record buffer = read (accept plan) refl
   where
-    short : (E : Expr) (b : Bool) → IsStarted ((check b record_too_long 0 >> good (read_steps 0 0 run_record)) >>= λ R. good (record { net = net_of E; recorded = R }))
-    short E true = steps_known 0 0 run_record
-    short E false = refl
+    tests : (E : Expr) → accept plan ≡ good E → (b : Bool) → leb (place_count (net_of E)) (length buffer) ≡ b → (d : Bool) → leb (length run_record) record_limit ≡ d → IsStarted (start plan run_record buffer)
+    tests E e true f true g = rw (e, f, g) (steps_known 0 0 run_record)
+    tests E e true f false g = simp (e, f, g) refl
+    tests E e false f true g = simp (e, f, g) refl
+    tests E e false f false g = simp (e, f, g) refl
 
-    room : (E : Expr) (b : Bool) → IsStarted (check b no_marking 0 >> ((check (leb (length run_record) record_limit) record_too_long 0 >> good (read_steps 0 0 run_record)) >>= λ R. good (record { net = net_of E; recorded = R })))
-    room E true = short E (leb (length run_record) record_limit)
-    room E false = refl
-
-    read : (a : Answer Expr) → IsKnown a
-        → IsStarted (a >>= λ E. check (leb (place_count (net_of E)) (length buffer)) no_marking 0 >> ((check (leb (length run_record) record_limit) record_too_long 0 >> good (read_steps 0 0 run_record)) >>= λ R. good (record { net = net_of E; recorded = R })))
-    read (good E) k = room E (leb (place_count (net_of E)) (length buffer))
-    read (refused n c) k = k
+    read : (a : Answer Expr) → accept plan ≡ a → IsStarted (start plan run_record buffer)
+    read (good E) e = tests E e (leb (place_count (net_of E)) (length buffer)) refl (leb (length run_record) record_limit) refl
+    read (refused n c) e = rw e (subst IsKnown e (accept_known plan))
 
 replayed_sayable : (buffer : List ℕ) (a : Answer Started) → IsStarted a → IsSayable (replayed buffer a).verdict
-replayed_sayable buffer (good S) k = run_sayable S.net 0 (entry_marking S.net) S.recorded k
+replayed_sayable buffer (good S) k =
+    let said = λ (n : ℕ). run_sayable S.net n (entry_marking S.net) S.recorded k in
+    search rules
 replayed_sayable buffer (refused n c) k = k
 
 replay_sayable : (plan run_record buffer : List ℕ) → IsSayable (replay plan run_record buffer).verdict

@@ -23,7 +23,7 @@ use plan::table::Row;
 use run::{Ran, Stopped, run_record};
 use sides::Draft;
 use spread::Told;
-use tables::rows::put_transitions;
+use tables::rows::put_net;
 use transitions::{MOST, Transition};
 
 // Nets of at most so many transitions and arcs get room of their size, so that a small net does not pay for the limits.
@@ -98,11 +98,10 @@ fn replay_net(
     run_from_entries(net, counts, record, &mut marking[..net.places])
 }
 
-// The net's rows and arcs, put into room for so many, and then the run. Where two lists of places are merged it is by way of `spare`.
+// The net's rows and arcs, put into room for so many, and then the run.
 fn replay_put<const R: usize, const A: usize>(
     draft: Draft,
     list: &[Transition],
-    spare: &mut [u16],
     counts: NetCounts,
     record: &[u8],
     marking: &mut [u8],
@@ -115,7 +114,7 @@ fn replay_put<const R: usize, const A: usize>(
     let mut rows = [0; R];
     let mut arcs = [0; A];
     let transitions = &list[..counts.transitions];
-    put_transitions(draft, transitions, &mut rows, &mut arcs, spare);
+    put_net(draft, transitions, &mut rows, &mut arcs, counts.places);
     let net = Net {
         rows: &rows,
         arcs: &arcs,
@@ -137,8 +136,6 @@ fn replay_in<const N: usize>(plan: &[u8], record: &[u8], marking: &mut [u8]) -> 
     let mut lists = [Node::default(); N];
     let mut index = [Told::default(); field::ACTION_LIMIT];
     let mut list = [Transition::default(); MOST];
-    // Room to merge two lists of places in; longer ones get room of their own.
-    let mut spare = [0; N];
     match judge(
         plan,
         &mut table,
@@ -154,9 +151,9 @@ fn replay_in<const N: usize>(plan: &[u8], record: &[u8], marking: &mut [u8]) -> 
                 index: &index,
             };
             if net.transitions <= FEW_TRANSITIONS && net.arcs <= FEW_ARCS {
-                replay_put::<FEW_ROWS, FEW_ARCS>(draft, &list, &mut spare, net, record, marking)
+                replay_put::<FEW_ROWS, FEW_ARCS>(draft, &list, net, record, marking)
             } else {
-                replay_put::<ALL_ROWS, ALL_ARCS>(draft, &list, &mut spare, net, record, marking)
+                replay_put::<ALL_ROWS, ALL_ARCS>(draft, &list, net, record, marking)
             }
         }
     }

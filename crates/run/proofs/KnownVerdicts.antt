@@ -39,5 +39,7 @@ run_sayable N steps m ends k = either (exits_marked N m)
     either : (b : Bool) → IsSayable (cond b (finished steps) (unfinished steps))
     either true = tt
     either false = tt
-run_sayable N steps m (step is rest) k = gone_on (fire_items N.transitions m is) steps m (λ m'. run N (suc steps) m' rest) (fire_known N.transitions m is) (λ m'. run_sayable N (suc steps) m' rest k)
+run_sayable N steps m (step is ends) k = gone_on (fire_items N.transitions m is) steps m _ (fire_known N.transitions m is) (λ m'. run_sayable N (suc steps) m' ends k)
+run_sayable N steps m (step is (step S R)) k = gone_on (fire_items N.transitions m is) steps m _ (fire_known N.transitions m is) (λ m'. run_sayable N (suc steps) m' (step S R) k)
+run_sayable N steps m (step is (no_step n c)) k = gone_on (fire_items N.transitions m is) steps m _ (fire_known N.transitions m is) (λ m'. k)
 run_sayable N steps m (no_step n c) k = k

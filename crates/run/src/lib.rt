@@ -13,7 +13,7 @@ ghost use Rattle.run.specs.inner.Ends.{Ends};
 
 use field::Refusal;
 use moving::Net;
-use net::{Index, index_by_first};
+use net::{CHAIN_END, Index, index_by_first};
 use std::error::Error;
 use std::fmt;
 use step::firing::Indexed;
@@ -59,7 +59,11 @@ fn run_net(net: Net, exits_from: usize, record: &[u8], marking: &mut [u8]) -> Re
     requires exits_from_in_bounds { exits_from ≤ length marking.old }
     ensures { Ends result marking.new net.entry.rows.now net.entry.arcs.now net.entry.transitions exits_from 0 marking.old (read_steps 0 0 «record».now) }
 {
-    let mut index = Index::new();
+    // `Index::new`, written out: what a function answers would be copied here.
+    let mut index = Index {
+        heads: [CHAIN_END; field::ACTION_LIMIT],
+        nexts: [0; field::TRANSITION_LIMIT],
+    };
     index_by_first(net.rows, net.transitions, &mut index);
     let indexed = Indexed { net, index: &index };
     steps::run_steps(indexed, exits_from, record, marking)

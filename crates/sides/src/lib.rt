@@ -22,7 +22,7 @@ use transitions::Transition;
 /// The work tables of a plan: the lists of every node, and what is told of every action.
 #[derive(Clone, Copy)]
 pub struct Draft<'a> {
-    pub lists: &'a [Node],
+    pub lists: &'a [Node<u16>],
     pub index: &'a [Told],
 }
 

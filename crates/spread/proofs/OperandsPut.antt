@@ -16,12 +16,6 @@ use Rattle.lists.specs.inner.Numbers.{numbers_of}
 use Rattle.spread.specs.inner.Walk.{one_put, two_put, three_put}
 use Rattle.lists.proofs.Lowering.{lower_same}
 
-mod_mod : (n : ℕ) → n % 65536 % 65536 ≡ n % 65536
-mod_mod n = omega arith
-
-cut_cut : (s : OneList) → cut (cut s) ≡ cut s
-cut_cut s = λ i. one_list (mod_mod s.base i) (mod_mod s.width i) (mod_mod s.times i) (mod_mod s.step i) (mod_mod s.up i)
-
 -- Equal in 16 bits: lists, and numbers.
 pub record Same (s t : OneList) : Type 0 where
   pub same : cut s ≡ cut t
@@ -30,34 +24,33 @@ pub record SameNumber (m n : ℕ) : Type 0 where
   pub same : m % 65536 ≡ n % 65536
 
 -- ---- an operand's lists, from the node's as they were read
-module _ (lists : List ℕ) (k : ℕ) {n : Node} (read : n ≡ node_row lists k) where
+module _ (lists : List ℕ) (k : ℕ) {n : Node ℕ} (read : n ≡ node_row lists k) where
   pub entries_kept : Same n.entries (lower_by 1 1 0 0 k (list_row lists (11 * k)))
-  entries_kept = record { same = ap (λ (x : Node). cut x.entries) read ∙ ap cut (lower_same k (list_row lists (11 * k))) }
+  entries_kept = record { same = ap (λ (x : Node ℕ). cut x.entries) read ∙ ap cut (lower_same k (list_row lists (11 * k))) }
 
   pub exits_kept : Same n.exits (lower_by 1 1 0 0 k (list_row lists (11 * k + 5)))
-  exits_kept = record { same = ap (λ (x : Node). cut x.exits) read ∙ ap cut (lower_same k (list_row lists (11 * k + 5))) }
+  exits_kept = record { same = ap (λ (x : Node ℕ). cut x.exits) read ∙ ap cut (lower_same k (list_row lists (11 * k + 5))) }
 
   pub internal_kept : SameNumber n.internal (get_or lists (11 * k + 10) 0 + 0)
   internal_kept =
-      let e = ap (λ (x : Node). x.internal) read in
+      let e = ap (λ (x : Node ℕ). x.internal) read in
       let p : n.internal ≡ get_or lists (11 * k + 10) 0 + 0 = omega arith in
       record { same = ap (λ m. m % 65536) p }
 
-  pub internal_behind : (i off : ℕ) → i ≡ (n.internal + off) % 65536 → SameNumber i (get_or lists (11 * k + 10) 0 + off)
-  internal_behind i off e = record { same = ap (λ m. m % 65536) e ∙ mod_mod (n.internal + off) ∙ ap (λ (x : Node). (x.internal + off) % 65536) read }
+  pub internal_behind : (i off : ℕ) → i ≡ n.internal + off → SameNumber i (get_or lists (11 * k + 10) 0 + off)
+  internal_behind i off e = record { same = ap (λ m. m % 65536) (e ∙ ap (λ (x : Node ℕ). x.internal + off) read) }
 
   module _ (left right step off : ℕ) {r : OneList} where
-    pub of_entries : r ≡ cut (lower_by left right step off k n.entries) → Same r (lower_by left right step off k (list_row lists (11 * k)))
-    of_entries e = record { same = ap cut e ∙ cut_cut (lower_by left right step off k n.entries) ∙ ap (λ (x : Node). cut (lower_by left right step off k x.entries)) read }
+    pub of_entries : r ≡ lower_by left right step off k n.entries → Same r (lower_by left right step off k (list_row lists (11 * k)))
+    of_entries e = record { same = ap cut (e ∙ ap (λ (x : Node ℕ). lower_by left right step off k x.entries) read) }
 
-    pub of_exits : r ≡ cut (lower_by left right step off k n.exits) → Same r (lower_by left right step off k (list_row lists (11 * k + 5)))
-    of_exits e = record { same = ap cut e ∙ cut_cut (lower_by left right step off k n.exits) ∙ ap (λ (x : Node). cut (lower_by left right step off k x.exits)) read }
+    pub of_exits : r ≡ lower_by left right step off k n.exits → Same r (lower_by left right step off k (list_row lists (11 * k + 5)))
+    of_exits e = record { same = ap cut (e ∙ ap (λ (x : Node ℕ). lower_by left right step off k x.exits) read) }
 
-    pub of_internals : {s : OneList} → s ≡ one_list n.internal 1 0 0 0 → r ≡ cut (lower_by left right step off k s)
+    pub of_internals : {s : OneList} → s ≡ one_list n.internal 1 0 0 0 → r ≡ lower_by left right step off k s
         → Same r (lower_by left right step off k (one_list (get_or lists (11 * k + 10) 0) 1 0 0 0))
     of_internals {s} p e = record {
-      same = ap cut e ∙ cut_cut (lower_by left right step off k s) ∙ ap (λ (s : OneList). cut (lower_by left right step off k s)) p
-          ∙ ap (λ (x : Node). cut (lower_by left right step off k (one_list x.internal 1 0 0 0))) read;
+      same = ap cut (e ∙ ap (λ (s : OneList). lower_by left right step off k s) p ∙ ap (λ (x : Node ℕ). lower_by left right step off k (one_list x.internal 1 0 0 0)) read);
     }
 
 -- ---- the rows of one, two and three operands, one after another

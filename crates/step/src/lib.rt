@@ -10,7 +10,7 @@ use field::{Fault, Refusal};
 use firing::Indexed;
 use moving::Net;
 use net::tokens::is_marking;
-use net::{Index, Lent};
+use net::{CHAIN_END, Index, Lent};
 
 pub mod firing;
 
@@ -19,7 +19,11 @@ pub fn fire(lent: &Lent, marking: &mut [u8], step: &[u8]) -> Result<(), Refusal>
     ensures answer { fired_says result ≡ (Fire.fire (tables_lent lent.now) marking.old step.now).answer }
     ensures marking { marking.new ≡ (Fire.fire (tables_lent lent.now) marking.old step.now).marking }
 {
-    let mut index = Index::new();
+    // `Index::new`, written out: what a function answers would be copied here, and that costs more than a small step.
+    let mut index = Index {
+        heads: [CHAIN_END; field::ACTION_LIMIT],
+        nexts: [0; field::TRANSITION_LIMIT],
+    };
     if !net::is_net_with_index(lent, &mut index) {
         return Err(Fault::NoNet.at(0));
     }

@@ -72,6 +72,29 @@ fn put_transition(
     end
 }
 
+// The places of a net that has few.
+const FEW_PLACES: usize = 256;
+
+/// All transitions of the list, with work room for as many places as the net may have: a net of few places does not pay for the limit, and
+/// of a net of more the room is made once.
+pub fn put_net(
+    draft: Draft<'_>,
+    list: &[Transition],
+    rows: &mut [u16],
+    arcs: &mut [u16],
+    places: usize,
+)
+    requires { Asked (node_table draft.lists.now) (told_table draft.index.now) (list_numbers list.now) (length list.now) rows.old arcs.old }
+    ensures rows { (E : Expr) → Whole (node_table draft.entry.lists.now) (told_table draft.entry.index.now) (list_numbers list.now) (length list.now) E → rows.new ≡ sets rows.old 0 (rows_of (net_of E)) }
+    ensures arcs { (E : Expr) → Whole (node_table draft.entry.lists.now) (told_table draft.entry.index.now) (list_numbers list.now) (length list.now) E → arcs.new ≡ sets arcs.old 0 (arcs_of (net_of E)) }
+{
+    if places <= FEW_PLACES {
+        put_transitions(draft, list, rows, arcs, &mut [0; FEW_PLACES]);
+    } else {
+        put_transitions(draft, list, rows, arcs, &mut [0; field::PLACE_LIMIT]);
+    }
+}
+
 /// All transitions of the list. `spare` is work room of any length.
 pub fn put_transitions(
     draft: Draft<'_>,

@@ -3,7 +3,7 @@
 #![tactic(auto)]
 
 pub mod parting;
-mod scope;
+pub mod scope;
 
 ghost use Rattle.std.specs.Prelude.{◌≡◌, List, ℕ, ◌+◌, ◌*◌, ◌≤◌, ◌<◌, T, length, slice_set, IfSome, IsNone};
 ghost use Rattle.algebra.specs.Expr.{Expr, actions, scope};

@@ -107,10 +107,14 @@ pub fn close(
     start: usize,
     end: usize,
 ) -> Option<usize>
-    requires { (k ≤ 1366) × (length rows.now ≤ 1366) × (most ≤ length list.old) × (start ≤ end) × (end ≤ most) }
+    requires { (k ≤ 1366) × (length rows.now ≤ 1366) × (most ≤ length list.old) × (start ≤ most) × (end ≤ most) }
     ensures fits { IfSome result (λ m. (start ≤ m) × (m ≤ most)) }
     ensures lists { (count i at a : ℕ) (E : Expr) → Node (table_numbers rows.now) count k i at (scope a E) → ScopesNamed (scope a E) → actions E ≤ 256 → Part (list_numbers list.old) start end (transitions i E) → Lists result start (actions E) (transitions i (scope a E)) (list_numbers list.old) (list_numbers list.new) }
 {
+    if end < start {
+        // No operand's transitions end before they start.
+        return Some(start);
+    }
     let name = usize::from(row_at(rows, k).byte);
     let mut left = [0; ACTION_LIMIT];
     let lefts = gather(&list[start..end], name, &mut left);

@@ -68,13 +68,13 @@ slice_bounds-list-end g c =
     let w = is_fine c.args.plan.now _ _ _ c.judge.result c.judge.ensures.says c.judge.ensures.drawn c.in_ok-net.was in
     omega (arith, w.few_transitions, c.judge.auto.list)
 
-pub slice_bounds-put_transitions-end : goal.slice_bounds-put_transitions-end
-slice_bounds-put_transitions-end g c =
+pub slice_bounds-put_net-end : goal.slice_bounds-put_net-end
+slice_bounds-put_net-end g c =
     let w = is_fine c.args.plan.now _ _ _ c.judge.result c.judge.ensures.says c.judge.ensures.drawn c.in_ok-net.was in
     sym (length-take-le c.in_ok-net.net.transitions c.judge.new.list (omega (arith, w.few_transitions, c.judge.auto.list)))
 
-pub put_transitions-requires : goal.put_transitions-requires
-put_transitions-requires g c =
+pub put_net-requires : goal.put_net-requires
+put_net-requires g c =
     let a = c.args in
     let n = c.in_ok-net.net in
     let w = is_fine a.plan.now _ _ _ c.judge.result c.judge.ensures.says c.judge.ensures.drawn c.in_ok-net.was in
@@ -89,5 +89,5 @@ returns g c =
     let w = is_fine a.plan.now _ _ _ c.judge.result c.judge.ensures.says c.judge.ensures.drawn c.in_ok-net.was in
     let fits = sym (reach_is a.kinds.now a.rows.now a.arcs.now n.places n.transitions n.arcs) ∙ sym c.tables_reach.ensures ∙ c.if-not-tables_reach.false in
     let whole = front_list n.transitions c.judge.new.list (omega (arith, w.few_transitions, c.judge.auto.list)) (λ list many. Whole (node_table c.judge.new.lists) (told_table c.judge.new.index) list many w.expr) w.whole in
-    let t = c.put_transitions.ensures in
+    let t = c.put_net.ensures in
     written a.plan.now n _ _ _ w (three_lent a.kinds.now a.rows.now a.arcs.now) fits c.write_kinds.ensures (t.rows w.expr whole) (t.arcs w.expr whole)

@@ -5,9 +5,8 @@ use lib.Seq.{length-take-le}
 use Rattle.net.specs.Lent.{tables_lent}
 use Rattle.net.proofs.NetTests.{net_reaches}
 use Rattle.moving.proofs.Checked.{marking_good}
-use Rattle.enabling.proofs.EnabledCall.{no_net_lent, no_marking_lent, no_room_lent, exits_told, stuck_lent, many_lent}
+use Rattle.enabling.proofs.EnabledCall.{no_net_lent, no_marking_lent, no_room_lent, kinds_long, none_lent, many_lent}
 use Rattle.enabling.proofs.enabled.Goals as goal
-use Rattle.enabling.proofs.enabled.Goals.{else-many-eq0-via-then-many-eq0+else-not-exits_hold, else-many-eq0-via-else-many-eq0}
 
 pub returns-then-not-is_net : goal.returns-then-not-is_net
 returns-then-not-is_net c =
@@ -42,28 +41,27 @@ pub write-many-requires : goal.write-many-requires
 write-many-requires c =
     leb-true _ _ (sym c.fits.ensures ∙ c.if-not-fits.false)
 
-pub slice_bounds-exits_hold-end : goal.slice_bounds-exits_hold-end
-slice_bounds-exits_hold-end c =
+pub slice_bounds-when_none-end : goal.slice_bounds-when_none-end
+slice_bounds-when_none-end c =
     sym (length-take-le _ _ (net_reaches (tables_lent c.args.lent.now) (sym c.is_net.ensures ∙ c.if-not-is_net.false)).0)
 
-pub returns-then-not-exits_hold : goal.returns-then-not-exits_hold
-returns-then-not-exits_hold c =
+pub when_none-requires : goal.when_none-requires
+when_none-requires c =
     let a = c.args in
-    let exits = exits_told (tables_lent a.lent.now) a.marking.now c.is_net.result c.is_net.ensures c.if-not-is_net.false c.is_marking.result c.is_marking.ensures c.if-not-is_marking.false in
-    let law = stuck_lent (tables_lent a.lent.now) a.marking.now a.out.now c.is_net.result c.is_net.ensures c.if-not-is_net.false
+    kinds_long (tables_lent a.lent.now) a.marking.now c.is_net.result c.is_net.ensures c.if-not-is_net.false c.is_marking.result c.is_marking.ensures c.if-not-is_marking.false
+
+pub returns-then-many-eq0 : goal.returns-then-many-eq0
+returns-then-many-eq0 c =
+    let a = c.args in
+    let law = none_lent (tables_lent a.lent.now) a.marking.now a.out.now c.is_net.result c.is_net.ensures c.if-not-is_net.false
     c.is_marking.result c.is_marking.ensures c.if-not-is_marking.false _ c.lent.ensures.transitions c.fits.result c.fits.ensures c.if-not-fits.false c.write-many.result _
-    c.write-many.ensures.many c.write-many.ensures.list c.if-many-eq0.true (exits c.exits_hold.result c.exits_hold.ensures ∙ c.if-not-exits_hold.true) in
+    c.write-many.ensures.many c.write-many.ensures.list c.if-many-eq0.true c.when_none.result c.when_none.ensures in
     record { answer = law.0; list = law.1 }
 
 pub returns : goal.returns
 returns c =
     let a = c.args in
-    let exits = exits_told (tables_lent a.lent.now) a.marking.now c.is_net.result c.is_net.ensures c.if-not-is_net.false c.is_marking.result c.is_marking.ensures c.if-not-is_marking.false in
     let law = many_lent (tables_lent a.lent.now) a.marking.now a.out.now c.is_net.result c.is_net.ensures c.if-not-is_net.false
     c.is_marking.result c.is_marking.ensures c.if-not-is_marking.false _ c.lent.ensures.transitions c.fits.result c.fits.ensures c.if-not-fits.false c.write-many.result _
-    c.write-many.ensures.many c.write-many.ensures.list
-    (elim c.else-many-eq0.branch [
-      | else-many-eq0-via-then-many-eq0+else-not-exits_hold w ↦ λ z. exits w.exits_hold.result w.exits_hold.ensures ∙ w.if-not-exits_hold.false
-      | else-many-eq0-via-else-many-eq0 w ↦ λ z. absurd (w.if-many-eq0.false z)
-    ]) in
+    c.write-many.ensures.many c.write-many.ensures.list c.if-many-eq0.false in
     record { answer = law.0; list = law.1 }

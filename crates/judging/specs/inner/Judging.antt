@@ -7,12 +7,7 @@ use Rattle.boxes.specs.Compile.{Counts, counts_of, accept}
 use Rattle.tables.specs.inner.Rows.{Whole}
 use Rattle.field.specs.declared.Refusal.{Refusal}
 use Rattle.judging.specs.declared.NetCounts.{NetCounts}
-
-abbrev pub counts : ℕ → ℕ → ℕ → ℕ → ℕ → Counts
-counts places transitions arcs entries internals = record { places = places; transitions = transitions; arcs = arcs; entries = entries; internals = internals }
-
-abbrev pub counts_told : NetCounts → Counts
-counts_told c = counts c.places c.transitions c.arcs c.entries c.internals
+pub use Rattle.judging.specs.Counts.{counts, counts_told}
 
 -- "Plan: 1; then fields in byte order ..; 10 after all reading; then 11, 12, 13": the counts of the plan's net, or the first refusal.
 unfoldable pub net_counts : List ℕ → Answer Counts

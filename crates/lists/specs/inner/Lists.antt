@@ -9,7 +9,7 @@ use Rattle.lists.specs.declared.List as declared
 use Rattle.lists.specs.declared.Node as declared_node
 
 abbrev pub OneList : Type 0
-OneList = declared.List
+OneList = declared.List ℕ
 
 abbrev pub one_list : ℕ → ℕ → ℕ → ℕ → ℕ → OneList
 one_list base width times step up = record { base = base; width = width; times = times; step = step; up = up }
@@ -36,10 +36,10 @@ pub record Modest (left right step off : ℕ) : Type 0 where
 abbrev pub list_row : List ℕ → ℕ → OneList
 list_row lists at = one_list (get_or lists at 0) (get_or lists (at + 1) 0) (get_or lists (at + 2) 0) (get_or lists (at + 3) 0) (get_or lists (at + 4) 0)
 
-abbrev pub node_row : List ℕ → ℕ → declared_node.Node
+abbrev pub node_row : List ℕ → ℕ → declared_node.Node ℕ
 node_row lists k = record { entries = list_row lists (11 * k); exits = list_row lists (11 * k + 5); internal = get_or lists (11 * k + 10) 0 }
 
-pub record ShortNode (n : declared_node.Node) : Type 0 where
+pub record ShortNode (n : declared_node.Node ℕ) : Type 0 where
   pub entries : Short n.entries
   pub exits : Short n.exits
   pub internal : n.internal ≤ 65535

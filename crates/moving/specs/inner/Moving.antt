@@ -1,19 +1,9 @@
 -- Tokens taken and put place by place, as the code does it. That this is the firing of 01 is shown of it.
-use Rattle.std.specs.Prelude.{ℕ, suc, ◌+◌, List, [], ◌∷◌, ◌++◌, map, Bool, true, cond, ◌&&◌, length, get_or, slice_index, set, take, drop, ◌==◌, eqb, leb}
+use Rattle.std.specs.Prelude.{ℕ, suc, List, [], ◌∷◌, ◌++◌, Bool, true, cond, ◌&&◌, length, get_or, slice_index, set, ◌==◌, eqb, leb}
 use Rattle.std.specs.List.{list_all}
 use Rattle.field.specs.Refusals.{input_empty, input_shared, two_tokens}
 use Rattle.field.specs.Answer.{Answer, good, ◌>>◌, check}
-use Rattle.net.specs.inner.Chains.{in_row}
-use Rattle.net.specs.declared.Side.{Side}
-use Rattle.net.specs.declared.Side.TheVariants.{Inputs, Outputs}
-
--- The places on one side of a transition: those that it consumes from, or those that it produces into.
-unfoldable pub side_of : Side → List ℕ → List ℕ → ℕ → List ℕ
-side_of Inputs rows arcs t = take (in_row rows t 4) (drop (in_row rows t 3) arcs)
-side_of Outputs rows arcs t = take (in_row rows t 5) (drop (in_row rows t 3 + in_row rows t 4) arcs)
-
-abbrev pub sides : Side → List ℕ → List ℕ → List ℕ → List (List ℕ)
-sides side rows arcs ts = map (side_of side rows arcs) ts
+unfoldable pub use Rattle.moving.specs.Transitions.{side_of, sides}
 
 -- Every place of a list holds so many tokens.
 abbrev pub hold : ℕ → List ℕ → List ℕ → Bool

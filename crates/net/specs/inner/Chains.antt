@@ -1,10 +1,7 @@
 -- The index of the transitions by their first action: a chain for each action, and what a walk of it visits.
-use Rattle.std.specs.Prelude.{ℕ, zero, suc, ◌+◌, ◌*◌, ◌<◌, ◌≡◌, List, [], ◌∷◌, Bool, true, false, ◌⊎◌, get_or, eqb}
+use Rattle.std.specs.Prelude.{ℕ, zero, suc, ◌<◌, ◌≡◌, List, [], ◌∷◌, Bool, true, false, ◌⊎◌, get_or, eqb}
 use Rattle.net.specs.Tables.{none}
-
--- One of the six numbers of a transition, in the rows alone.
-abbrev pub in_row : List ℕ → ℕ → ℕ → ℕ
-in_row rows t k = get_or rows (6 * t + k) 0
+pub use Rattle.net.specs.Rows.{in_row}
 
 abbrev pub keep : Bool → ℕ → List ℕ → List ℕ
 keep true t ts = t ∷ ts

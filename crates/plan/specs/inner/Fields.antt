@@ -65,7 +65,7 @@ HeadIs (Ok (Operator tag byte members start len)) s at n field = IsOperator (tag
 pub record Room (l room at node n : ℕ) : Type 0 where
   pub in_plan : at + l ≤ plan_limit
   pub few_nodes : 3 * node + l ≤ plan_limit
-  pub in_rows : 3 * node + l ≤ 3 * room
+  pub in_rows : 3 * node + l ≤ 3 * room + 2
   pub counted : n ≤ action_limit
 
 -- A field takes three bytes at least, and three for each of its nodes.

@@ -31,8 +31,8 @@ put {plan} {lists} {index} {c} list t E w = front_list c.transitions list (liste
 pub slice_bounds-transitions-end : goal.slice_bounds-transitions-end
 slice_bounds-transitions-end g c = sym (length-take-le c.args.counts.transitions c.args.list.now (listed c.args.list.now c.requires.known.told))
 
-pub put_transitions-requires : goal.put_transitions-requires
-put_transitions-requires g c =
+pub put_net-requires : goal.put_net-requires
+put_net-requires g c =
     let t = c.requires.known.told in
     front_list c.args.counts.transitions c.args.list.now (listed c.args.list.now t)
     (λ l n. Asked (node_table c.args.draft.lists.now) (told_table c.args.draft.index.now) l n (replicate g.row.R 0) (replicate g.row.A 0))
@@ -40,7 +40,7 @@ put_transitions-requires g c =
 
 pub invariant_of-net : goal.invariant_of-net
 invariant_of-net g c =
-    let p = c.put_transitions in
+    let p = c.put_net in
     let t = c.requires.known.told in
     record {
       in_order = work_in_order t (replicate g.row.R 0) (replicate g.row.A 0) (omega (arith, length-replicate {A = ℕ} g.row.R 0, c.requires.in_bounds.0))
@@ -53,7 +53,7 @@ replay_net-requires g c = record { internals_bound = work_exits c.requires.known
 
 pub returns : goal.returns
 returns g c =
-    λ plan t. let p = c.put_transitions in
+    λ plan t. let p = c.put_net in
     let q = c.replay_net in
     let w = its_net t in
     plan_made plan c.args.«record».now c.args.marking.now w.expr w.accepts q.result _

@@ -8,6 +8,10 @@ use Rattle.transitions.proofs.FlatNumbers.{part_cut}
 use Rattle.transitions.proofs.ScopeCloses.{kept_in_place, closed}
 use Rattle.transitions.proofs.scope.close.Goals as goal
 
+pub returns-then-end-start-clause-lists : goal.returns-then-end-start-clause-lists
+returns-then-end-start-clause-lists c =
+    λ count i at a E n s f p. absurd (omega (arith, c.if-end-start.true, p.count))
+
 pub returns-clause-lists : goal.returns-clause-lists
 returns-clause-lists c =
     let a = c.args in
