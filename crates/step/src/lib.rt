@@ -19,7 +19,7 @@ pub fn fire(lent: &Lent, marking: &mut [u8], step: &[u8]) -> Result<(), Refusal>
     ensures answer { fired_says result ≡ (Fire.fire (tables_lent lent.now) marking.old step.now).answer }
     ensures marking { marking.new ≡ (Fire.fire (tables_lent lent.now) marking.old step.now).marking }
 {
-    // `Index::new`, written out: what a function answers would be copied here, and that costs more than a small step.
+    // `Index::new`, written out: what a function answers would be copied here, a quarter of a small fire's instructions.
     let mut index = Index {
         heads: [CHAIN_END; field::ACTION_LIMIT],
         nexts: [0; field::TRANSITION_LIMIT],
