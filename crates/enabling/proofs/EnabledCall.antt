@@ -23,12 +23,14 @@ use Rattle.field.specs.Says.{number_of}
 use Rattle.field.specs.declared.Fault.{Fault}
 use Rattle.field.specs.declared.Fault.TheVariants.{NoNet, NoMarking, TableTooShort}
 use Rattle.field.specs.declared.Refusal.{Refusal}
+use Rattle.std.specs.List.{list_all, zip}
 use lib.Seq.{length-take-le}
 use Rattle.net.proofs.NetTests.{net_reaches}
 use Rattle.moving.proofs.Checked.{marking_good}
+use Rattle.enabling.proofs.ExitsHold.{ExitHolds, exits_paired}
 use Rattle.enabling.specs.Says.{enabling_told, enabling_says}
 use Rattle.enabling.specs.declared.Enabling.{Enabling}
-use Rattle.enabling.specs.declared.Enabling.TheVariants.{Many}
+use Rattle.enabling.specs.declared.Enabling.TheVariants.{Many, Stuck}
 
 abbrev pub Lists : Result Enabling Refusal → List ℕ → Tables → List ℕ → List ℕ → Type 0
 Lists r exit tables m out = (enabling_says r ≡ (enabled tables m out).answer) × (exit ≡ (enabled tables m out).list)
@@ -41,6 +43,11 @@ pub kinds_long : (tables : Tables) (m : List ℕ) (b : Bool) → b ≡ is_net ta
     → length (take tables.places tables.kinds) ≡ length (take tables.places m)
 kinds_long tables m b e t d f u =
     length-take-le _ _ (net_reaches tables (sym e ∙ t)).0 ∙ sym (length-take-le _ _ (marking_good tables.places m d f u).0)
+
+-- The exits of a net and its part of a marking, place by place.
+pub exits_told : (tables : Tables) (m : List ℕ) (b : Bool) → b ≡ is_net tables → b ≡ true → (d : Bool) → check_marking tables.places m ≡ check d no_marking 0 → d ≡ true
+    → (h : Bool) → h ≡ list_all ExitHolds (zip (take tables.places tables.kinds) (take tables.places m)) → exits_hold (take tables.places tables.kinds) (take tables.places m) ≡ h
+exits_told tables m b e t d f u h x = sym (x ∙ exits_paired (take tables.places tables.kinds) (take tables.places m) (kinds_long tables m b e t d f u))
 
 module _ (tables : Tables) (m out : List ℕ) where
   refuses : (fault : Fault) (r : Refusal) → (r.fault ≡ fault) × (r.carried ≡ 0) → refused (number_of fault) 0 ≡ list_enabled tables m out → Lists (Err r) out tables m out
@@ -92,6 +99,9 @@ module _ (tables : Tables) (m out : List ℕ) where
             go : (l : List ℕ) → length l ≡ 0 → how_many exits [] ≡ how_many exits l
             go [] y = refl
             go (x ∷ l) y = absurd (omega arith)
+
+        pub stuck_lent : many ≡ 0 → exits ≡ false → Lists (Ok Stuck) exit tables m out
+        stuck_lent z e = none_lent z Stuck (ap (λ (b : Bool). how_many b []) (sym e))
 
         pub many_lent : (many ≡ 0 → ⊥) → Lists (Ok (Many many)) exit tables m out
         many_lent n = list_told (Many many) (ap good (go numbers many_is))

@@ -9,8 +9,9 @@ use Rattle.field.proofs.NumbersOfRows.{length_numbers, number_of_row, number_pas
 use Rattle.net.specs.declared.Side.{Side}
 use Rattle.net.specs.declared.Side.TheVariants.{Inputs, Outputs}
 use Rattle.lists.specs.declared.Node.{Node}
-use Rattle.lists.specs.inner.Lists.{OneList, one_list, cut, list_row, node_row, node_put, place_of}
+use Rattle.lists.specs.inner.Lists.{OneList, one_list, Short, ShortNode, cut, list_row, node_row, node_put, place_of}
 use Rattle.lists.specs.inner.Numbers.{node_numbers, node_table, list_on}
+use Rattle.lists.proofs.RowsPut.{mod_small}
 
 pub table_length : (nodes : List (Node ℕ)) → length (node_table nodes) ≡ 11 * length nodes
 table_length nodes = length_numbers node_numbers 11 (λ r. refl) nodes
@@ -53,12 +54,30 @@ past_rows nodes Inputs k h =
 past_rows nodes Outputs k h = number_past_rows node_numbers 11 (λ r. refl) nodes k 5 h
 
 -- ---- what is stored
--- Each number in 16 bits, as `node_put` has them.
-pub node_stored : (nodes : List (Node ℕ)) (c : ℕ) (entries exits : OneList) (internal : ℕ) → c < length nodes
+-- Any lists: each number in 16 bits, as `node_put` has them.
+pub any_stored : (nodes : List (Node ℕ)) (c : ℕ) (entries exits : OneList) (internal : ℕ) → c < length nodes
     → node_table (set nodes c (record { entries = cut entries; exits = cut exits; internal = internal % 65536 })) ≡ node_put (node_table nodes) c entries exits internal
-node_stored nodes c entries exits internal h =
+any_stored nodes c entries exits internal h =
     numbers_set node_numbers 11 (λ r. refl) nodes c (record { entries = cut entries; exits = cut exits; internal = internal % 65536 }) h
     ∙ sym (rw (le-leb (11 * c + 11) (length (node_table nodes)) (omega (arith, table_length nodes))) refl)
+
+cut_small : {s : OneList} → Short s → cut s ≡ s
+cut_small {s} h =
+    let a = mod_small s.base h.base in
+    let b = mod_small s.width h.width in
+    let c = mod_small s.times h.times in
+    let d = mod_small s.step h.step in
+    let e = mod_small s.up h.up in
+    λ i. one_list (a i) (b i) (c i) (d i) (e i)
+
+-- A node of such numbers: as it is.
+pub node_stored : (nodes : List (Node ℕ)) (c : ℕ) {n : Node ℕ} → ShortNode n → c < length nodes
+    → node_table (set nodes c n) ≡ node_put (node_table nodes) c n.entries n.exits n.internal
+node_stored nodes c {n} short h =
+    let a = cut_small short.entries in
+    let b = cut_small short.exits in
+    let i = mod_small n.internal short.internal in
+    sym (λ t. node_table (set nodes c (record { entries = a t; exits = b t; internal = i t }))) ∙ any_stored nodes c n.entries n.exits n.internal h
 
 -- Where the table does not reach nothing is.
 pub none_stored : (nodes : List (Node ℕ)) (c : ℕ) (entries exits : OneList) (internal : ℕ) → length nodes ≤ c → node_table nodes ≡ node_put (node_table nodes) c entries exits internal

@@ -47,18 +47,22 @@ refused_same : (r : Result Sizes Refusal) (k c : ℕ) → Refuses r k c → says
 refused_same (Ok read) k c e = absurd e
 refused_same (Err q) k c e = ap₂ (λ (n m : ℕ). refused n m) e.0 e.1
 
+-- A node takes three bytes at least and six numbers: the table has room for as many as the bytes may have.
+abbrev pub Roomy : ℕ → List ℕ → Type 0
+Roomy l t = (n : ℕ) → 3 * n ≤ l → 6 * n ≤ length t
+
 one_operand : (q : Answer (Parts 1)) (r : Result Sizes Refusal) (l : ℕ) (t t' : List ℕ) → ((p : Parts 1) → q ≡ good p → p.so_far ≡ 0 + all_actions 1 p.operands)
-    → (room : ℕ) → length t ≡ 6 * room → l ≤ 3 * room + 2 → OperandsFit r l 0 → OperandsAre 1 q r 0 0 0 t t' → Allowed (the_one q) r t t'
+    → Roomy l t → OperandsFit r l 0 → OperandsAre 1 q r 0 0 0 t t' → Allowed (the_one q) r t t'
 unfolding sizes_of
-one_operand (refused k c) r l t t' h room n m f i = (refused_same r k c i, tt)
-one_operand (good p) (Err e) l t t' h room n m f i = let z = i.0 in clash (cc)
-one_operand (good p) (Ok read) l t t' h room n m f i =
+one_operand (refused k c) r l t t' h m f i = (refused_same r k c i, tt)
+one_operand (good p) (Err e) l t t' h m f i = let z = i.0 in clash (cc)
+one_operand (good p) (Ok read) l t t' h m f i =
     let E = p.operands.0 in
     let z = i.0 in
     let er : read ≡ sizes (0 + (node_count E + 0)) p.so_far = cc in
     let nodes_are : read.nodes ≡ node_count E = ap (λ (q : Sizes). q.nodes) er ∙ omega arith in
     let actions_are : read.actions ≡ actions E = ap (λ (q : Sizes). q.actions) er ∙ omega (arith, h p refl) in
-    (ap₂ (λ (m a : ℕ). good (record { nodes = m; actions = a })) nodes_are actions_are, i.1 ∙ front_rows E t (omega arith))
+    (ap₂ (λ (m a : ℕ). good (record { nodes = m; actions = a })) nodes_are actions_are, i.1 ∙ front_rows E t (m (node_count E) (omega arith)))
 
 -- the ways out
 
@@ -66,8 +70,8 @@ pub plan_over_limit : (s t t' : List ℕ) (r : Result Sizes Refusal) → Refuses
 unfolding read_plan
 plan_over_limit s t t' r e h = rw (lt-leb (length s) plan_limit h) (refused_same r plan_too_long 0 e, tt)
 
-pub plan_read : (s t t' : List ℕ) (r : Result Sizes Refusal) → length s ≤ plan_limit → (room : ℕ) → length t ≡ 6 * room → length s ≤ 3 * room + 2 → OperandsFit r (length s) 0
+pub plan_read : (s t t' : List ℕ) (r : Result Sizes Refusal) → length s ≤ plan_limit → Roomy (length s) t → OperandsFit r (length s) 0
     → OperandsAre 1 (read_operands (read_field depth_limit) 1 s 0 0) r 0 0 0 t t' → (says sizes_told r ≡ read_sizes s) × RowsAre (read_plan s) t t'
-plan_read s t t' r h room n l f i =
+plan_read s t t' r h m f i =
     rw (plan_operands s h)
-    (one_operand (read_operands (read_field depth_limit) 1 s 0 0) r (length s) t t' (λ p g. operands_count depth_limit 1 s 0 0 p g) room n l f i)
+    (one_operand (read_operands (read_field depth_limit) 1 s 0 0) r (length s) t t' (λ p g. operands_count depth_limit 1 s 0 0 p g) m f i)

@@ -3,7 +3,7 @@
 use mathlib.Core.Path.{◌∙◌, ap}
 use lib.ListN.{set}
 use Rattle.lists.specs.inner.Numbers.{node_table}
-use Rattle.lists.proofs.NodeRows.{node_stored, none_stored}
+use Rattle.lists.proofs.NodeRows.{any_stored, none_stored}
 use Rattle.lists.proofs.put_node.Goals as goal
 
 pub returns-then-c-lists : goal.returns-then-c-lists
@@ -13,7 +13,7 @@ returns-then-c-lists c =
     let outs = c.cut-then-c-lists.ensures in
     let low = c.short.ensures in
     ap node_table (λ t. set a.lists.now a.c (record { entries = ins t; exits = outs t; internal = low t }))
-    ∙ node_stored a.lists.now a.c a.entries a.exits a.internal c.if-c-lists.true
+    ∙ any_stored a.lists.now a.c a.entries a.exits a.internal c.if-c-lists.true
 
 pub returns-else-c-lists : goal.returns-else-c-lists
 returns-else-c-lists c = let a = c.args in none_stored a.lists.now a.c a.entries a.exits a.internal c.if-c-lists.false
