@@ -70,7 +70,7 @@ cut_small {s} h =
     let e = mod_small s.up h.up in
     λ i. one_list (a i) (b i) (c i) (d i) (e i)
 
--- A node of such numbers: as it is.
+-- A node whose numbers fit 16 bits: as it is.
 pub node_stored : (nodes : List (Node ℕ)) (c : ℕ) {n : Node ℕ} → ShortNode n → c < length nodes
     → node_table (set nodes c n) ≡ node_put (node_table nodes) c n.entries n.exits n.internal
 node_stored nodes c {n} short h =
